@@ -1,0 +1,41 @@
+-- How tightly trees bind, and the trees that are spelled well.
+use Rattle.std.specs.Prelude.{ℕ, Bool, true, false, ◌&&◌, nat_lt, List, [], ◌∷◌}
+use Rattle.std.specs.List.{list_all}
+use Rattle.py_tree.specs.Names.{is_identifier}
+use Rattle.py_tree.specs.Numbers.{is_number}
+use Rattle.py_tree.specs.Trees.{Tree, literal, name, sum, Head, value, assign, stmt, Stmts, end, then_comes}
+use Rattle.py_tree.specs.declared.token.Token.{Token}
+use Rattle.py_tree.specs.declared.token.TokenKind.{TokenKind}
+use Rattle.py_tree.specs.declared.token.TokenKind.TheVariants as kind
+
+-- the level of a tree's outermost form, from the loosest, 1, to the tightest, 11 (Python language reference, section 6.17)
+abbrev pub level : Tree → ℕ
+level (literal token) = 11
+level (name x) = 11
+level (sum a b) = 6
+
+-- a number, spelled as one
+abbrev pub is_literal : TokenKind → List ℕ → Bool
+is_literal kind.Name spelling = false
+is_literal kind.Number spelling = is_number spelling
+is_literal kind.Mark spelling = false
+
+-- Each operand binds as tightly as its place asks for, each name is one and no keyword, and each literal is spelled as one.
+-- A sum groups to the left: its right side binds more tightly than a sum.
+abbrev pub is_levelled : Tree → Bool
+is_levelled (literal token) = is_literal token.kind token.spelling
+is_levelled (name x) = is_identifier x
+is_levelled (sum a b) = is_levelled a && nat_lt 6 (level b) && is_levelled b
+
+-- one or more names
+abbrev pub are_targets : List (List ℕ) → Bool
+are_targets [] = false
+are_targets (x ∷ xs) = list_all is_identifier (x ∷ xs)
+
+abbrev pub is_levelled_head : Head → Bool
+is_levelled_head (value t) = is_levelled t
+is_levelled_head (assign targets t) = are_targets targets && is_levelled t
+
+abbrev pub are_levelled : Stmts → Bool
+are_levelled end = true
+are_levelled (then_comes (stmt n head block) rest) = is_levelled_head head && are_levelled block && are_levelled rest

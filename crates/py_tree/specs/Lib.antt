@@ -1,0 +1,8 @@
+pub mod Levels
+pub mod Names
+pub mod Numbers
+pub mod Scope
+pub mod Tokens
+pub mod Trees
+pub mod View
+pub mod formers

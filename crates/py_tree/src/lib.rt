@@ -1,0 +1,12 @@
+//! Tokens and trees of notebook code, and what they spell.
+#![tactic(auto)]
+
+mod lists;
+mod row;
+mod token;
+mod tree;
+
+pub use lists::{Spelling, Spellings};
+pub use row::Row;
+pub use token::{Token, TokenKind};
+pub use tree::{Block, CellCode, Expr, Line, Stmt};

@@ -1,0 +1,20 @@
+// Tokens.
+use crate::lists::Spelling;
+
+/// What a token is.
+#[derive(Clone, Copy, Debug, PartialEq, Eq)]
+pub enum TokenKind {
+    /// A name or a keyword.
+    Name,
+    /// A whole number.
+    Number,
+    /// An operator or a delimiter.
+    Mark,
+}
+
+/// A token with its spelling (Python language reference, section 2).
+#[derive(Debug, Drop)]
+pub struct Token {
+    pub kind: TokenKind,
+    pub spelling: Spelling,
+}
