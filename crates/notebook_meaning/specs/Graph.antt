@@ -1,0 +1,87 @@
+-- The graph of a notebook, which is its cells in file order. Cells have numbers from 0.
+use Rattle.std.specs.Prelude.{◌≡◌, ℕ, zero, suc, ◌+◌, ◌<◌, Bool, not, ◌&&◌, ◌==◌, nat_lt, IsTrue, List, [], ◌∷◌, ◌++◌, length, filter, find, Option, Some, None, slice_get}
+use Rattle.std.specs.List.{list_any, list_all}
+use Rattle.py_tree.specs.Names.{Name, is_among}
+use Rattle.py_tree.specs.Scope.{defs, refs}
+use Rattle.py_tree.specs.Trees.{Cell}
+
+-- the names that a cell has by f, and none past the last cell
+abbrev pub names_at : (Cell → List Name) → Option Cell → List Name
+names_at f None = []
+names_at f (Some c) = f c
+
+-- the names that a cell defines, and those that it references, by its number
+abbrev pub defs_of : List Cell → ℕ → List Name
+defs_of nb c = names_at defs (slice_get nb c)
+
+abbrev pub refs_of : List Cell → ℕ → List Name
+refs_of nb c = names_at refs (slice_get nb c)
+
+-- an edge goes from a to b where b references a definition of a
+abbrev pub edge : List Cell → ℕ → ℕ → Bool
+edge nb a b = list_any (λ x. is_among x (defs_of nb a)) (refs_of nb b)
+
+-- the numbers from n on, as many as there are in the list
+abbrev pub numbers_from : {X : Type 0} → ℕ → List X → List ℕ
+numbers_from n [] = []
+numbers_from n (x ∷ xs) = n ∷ numbers_from (n + 1) xs
+
+-- all cells in file order
+abbrev pub all_cells : List Cell → List ℕ
+all_cells nb = numbers_from 0 nb
+
+-- the number is in the list
+abbrev pub is_in : ℕ → List ℕ → Bool
+is_in c cs = list_any (λ d. d == c) cs
+
+-- the cells from which an edge goes to c, in file order
+abbrev pub parents : List Cell → ℕ → List ℕ
+parents nb c = filter (λ a. edge nb a c) (all_cells nb)
+
+-- a list of one or more cells in which an edge joins each to the next
+abbrev pub IsChain : List Cell → List ℕ → Type 0
+IsChain nb [] = ⊥
+IsChain nb (a ∷ []) = Unit {0}
+IsChain nb (a ∷ b ∷ cs) = IsTrue (edge nb a b) × IsChain nb (b ∷ cs)
+
+-- a chain of two or more leads from the cell to itself
+abbrev pub LiesOnCycle : List Cell → ℕ → Type 0
+LiesOnCycle nb c = (between : List ℕ) × IsChain nb (c ∷ between ++ c ∷ [])
+
+-- the cell isn't listed, and all its parents are
+abbrev pub is_ready : List Cell → List ℕ → ℕ → Bool
+is_ready nb listed c = not (is_in c listed) && list_all (λ p. is_in p listed) (parents nb c)
+
+-- the first cell in file order, not yet listed, all of whose parents are listed
+abbrev pub next_cell : List Cell → List ℕ → Option ℕ
+next_cell nb listed = find (is_ready nb listed) (all_cells nb)
+
+abbrev pub with_next : Option ℕ → List ℕ → List ℕ
+with_next None listed = listed
+with_next (Some c) listed = listed ++ c ∷ []
+
+-- the first k places of the order
+abbrev pub places : List Cell → ℕ → List ℕ
+places nb zero = []
+places nb (suc k) = let listed = places nb k in with_next (next_cell nb listed) listed
+
+-- The order in which cells run: at each place stands the first cell in file order, not yet listed, all of whose parents are
+-- listed. It lists no cell of a cycle.
+abbrev pub order : List Cell → List ℕ
+order nb = places nb (length nb)
+
+-- an earlier cell than c defines the name
+abbrev pub defined_before : List Cell → ℕ → Name → Bool
+defined_before nb c x = list_any (λ a. nat_lt a c && is_among x (defs_of nb a)) (all_cells nb)
+
+-- the first name of the cell that an earlier cell defines
+abbrev pub name_again : List Cell → ℕ → Option Name
+name_again nb c = find (defined_before nb c) (defs_of nb c)
+
+-- no name is defined in two cells
+abbrev pub NoneDoubled : List Cell → Type 0
+NoneDoubled nb = (c : ℕ) → name_again nb c ≡ None
+
+-- no cell lies on a cycle
+abbrev pub NoneCyclic : List Cell → Type 0
+NoneCyclic nb = (c : ℕ) → c < length nb → LiesOnCycle nb c → ⊥

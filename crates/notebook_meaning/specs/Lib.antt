@@ -1,0 +1,11 @@
+pub mod Answer
+pub mod FrameText
+pub mod Graph
+pub mod Meaning
+pub mod Once
+pub mod Runs
+pub mod Samples
+pub mod Spending
+pub mod Thin
+pub mod Trace
+pub mod Whole

@@ -1,0 +1,73 @@
+-- What the program writes, and its status.
+use Rattle.std.specs.Prelude.{◌≡◌, ℕ, ◌+◌, Bool, false, cond, not, ◌&&◌, ◌==◌, List, [], ◌∷◌, ◌++◌, take, codes, decimal, Option, Some, None, IfSome}
+use Rattle.std.specs.Str.{bytes_eq}
+use Rattle.py_tree.specs.Trees.{Cell}
+use Rattle.notebook_meaning.specs.Graph.{NoneDoubled, NoneCyclic}
+use Rattle.notebook_meaning.specs.Thin.{IsForm, byte_limit}
+use Rattle.notebook_meaning.specs.Answer.{Open, solo}
+use Rattle.notebook_meaning.specs.FrameText.{frame_lines}
+
+-- the bytes are the file of these cells, no name is defined in two cells, and no cell lies on a cycle
+pub record IsAccepted (bytes : List ℕ) (nb : List Cell) : Type 0 where
+  pub form : IsForm bytes nb
+  pub once : NoneDoubled nb
+  pub free : NoneCyclic nb
+
+-- the bytes are the file of no such cells
+abbrev pub IsRefused : List ℕ → Type 0
+IsRefused bytes = (nb : List Cell) → IsAccepted bytes nb → ⊥
+
+-- the line that is written for bytes that are refused
+abbrev pub refusal_text : ℕ → List ℕ
+refusal_text line = codes "refused " ++ decimal line ++ codes " Thin\n"
+
+-- the usual budget of a cell
+abbrev pub usual_budget : ℕ
+usual_budget = 200000
+
+-- what `once` writes for accepted cells: the frames of the opening of one visitor, one a line
+abbrev pub once_text : List Cell → List ℕ
+once_text nb = frame_lines (solo nb usual_budget (Open ∷ []))
+
+-- the command that the words ask for
+pub data Command : Type 0 where
+  Once : (file : List ℕ) → Command
+
+-- a word that isn't empty and doesn't begin with `-`
+abbrev pub is_positional : List ℕ → Bool
+is_positional [] = false
+is_positional (c ∷ cs) = not (c == 45)
+
+-- The command of words of the form `once FILE`, and none for other words. The program's own name is no word.
+abbrev pub command_of : List (List ℕ) → Option Command
+command_of [] = None
+command_of (word ∷ []) = None
+command_of (word ∷ file ∷ []) = cond (bytes_eq word (codes "once") && is_positional file) (Some (Once file)) None
+command_of (word ∷ file ∷ more ∷ words) = None
+
+-- what is read of a file: its bytes, or one byte more than the limit
+abbrev pub read_of : List ℕ → List ℕ
+read_of bytes = take (byte_limit + 1) bytes
+
+-- the bytes are what is read of the file, where the files tell what it holds
+abbrev pub AreRead : (List ℕ → Option (List ℕ)) → List ℕ → List ℕ → Type 0
+AreRead holds file bytes = IfSome (holds file) (λ all. bytes ≡ read_of all)
+
+-- The status and the whole text that a run of the program comes to where nothing stops it.
+pub data Comes (holds : List ℕ → Option (List ℕ)) (words : List (List ℕ)) (status : ℕ) (text : List ℕ) : Type 0 where
+  -- 0: the notebook was opened
+  opened : (file bytes : List ℕ) (nb : List Cell) → command_of words ≡ Some (Once file) → AreRead holds file bytes
+      → IsAccepted bytes nb → status ≡ 0 → text ≡ once_text nb → Comes holds words status text
+  -- 1: the bytes are refused
+  refused : (file bytes : List ℕ) (line : ℕ) → command_of words ≡ Some (Once file) → AreRead holds file bytes
+      → IsRefused bytes → status ≡ 1 → text ≡ refusal_text line → Comes holds words status text
+  -- 2: the words are no form
+  usage : command_of words ≡ None → status ≡ 2 → text ≡ codes "usage\n" → Comes holds words status text
+  -- 3: the file couldn't be read
+  unread : (file : List ℕ) → command_of words ≡ Some (Once file) → status ≡ 3 → text ≡ codes "read fault\n"
+      → Comes holds words status text
+
+-- nothing, or a beginning of the text that a run comes to
+pub data Begins (holds : List ℕ → Option (List ℕ)) (words : List (List ℕ)) (part : List ℕ) : Type 0 where
+  nothing : part ≡ [] → Begins holds words part
+  beginning : (status : ℕ) (text rest : List ℕ) → Comes holds words status text → part ++ rest ≡ text → Begins holds words part

@@ -1,0 +1,9 @@
+// What a name is bound to.
+use py_value::Value;
+
+/// What a name is bound to.
+#[derive(Debug, Drop)]
+pub enum Binding {
+    /// A value.
+    Plain(Value),
+}

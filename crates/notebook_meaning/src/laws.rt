@@ -1,0 +1,1 @@
+// Worked notebooks and laws, computed and proved from the definitions.
