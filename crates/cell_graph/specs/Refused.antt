@@ -1,0 +1,12 @@
+-- Why cells are refused.
+use Rattle.std.specs.Prelude.{List}
+use Rattle.cell_graph.specs.declared.check.GraphFault.{GraphFault}
+use Rattle.cell_graph.specs.declared.check.GraphFault.TheVariants.{Doubly, Cycle, Memory}
+use Rattle.notebook_meaning.specs.Graph.{NoneDoubled, NoneCyclic}
+use Rattle.py_tree.specs.Trees.{Cell}
+
+-- Want of memory has no cause here.
+abbrev pub IsCauseOf : GraphFault → List Cell → Type 0
+IsCauseOf Doubly nb = NoneDoubled nb → ⊥
+IsCauseOf Cycle nb = NoneDoubled nb × (NoneCyclic nb → ⊥)
+IsCauseOf Memory nb = Unit {0}

@@ -1,0 +1,24 @@
+// The names that a cell defines and references.
+ghost use Rattle.std.specs.Prelude.{◌≡◌, IfOk};
+ghost use Rattle.py_tree.specs.Scope as scope;
+ghost use Rattle.py_tree.specs.View.{view_cell};
+
+use py_tree::CellCode;
+use py_value::{Lines, Memory};
+use std::alloc::Global;
+
+/// The names that a cell defines, each once, in the order of their first tokens: those that it binds outside functions and that
+/// don't begin with `_` (marimo's documentation, "Reactivity"; Python language reference, section 4.2).
+pub fn defs(alloc: Global, cell: &CellCode) -> Result<Lines, Memory>
+    ensures { IfOk result (λ names. names ≡ scope.defs (view_cell cell.now)) }
+{
+    Err(Memory)
+}
+
+/// The names that a cell references, each once, in the order of their first tokens: those that it reads and doesn't bind, that
+/// don't begin with `_` and are no builtins.
+pub fn refs(alloc: Global, cell: &CellCode) -> Result<Lines, Memory>
+    ensures { IfOk result (λ names. names ≡ scope.refs (view_cell cell.now)) }
+{
+    Err(Memory)
+}

@@ -1,0 +1,71 @@
+// Notebooks with their graph.
+ghost use Rattle.std.specs.Prelude.{◌≡◌, ◌<◌, length};
+ghost use Rattle.notebook_meaning.specs.Graph as graph;
+ghost use Rattle.py_tree.specs.View.{view_cells};
+
+use crate::cell_list::CellList;
+use py_tree::CellCode;
+use py_value::Lines;
+use std::marker::Model;
+
+/// A notebook: cells with their graph, no name of which is defined in two cells, and none of which lies on a cycle. Contracts
+/// see it as its cells in file order.
+#[derive(Drop)]
+pub struct Notebook {
+    pub(crate) cells: Vec<CellCode>,
+    pub(crate) defined: Vec<Lines>,
+    pub(crate) above: Vec<CellList>,
+    pub(crate) ordered: Vec<u32>,
+}
+
+impl Model for Notebook {
+    ghost use Rattle.std.specs.Prelude.{◌≡◌, List, ◌^◌, ◌<◌, length};
+    ghost use Rattle.std.specs.Coded.{codes};
+    ghost use Rattle.py_tree.specs.contracts.tree.Block as block;
+    ghost use Rattle.py_tree.specs.declared.tree.CellCode.{CellCode};
+    ghost use Rattle.py_tree.specs.View.{view_cells};
+    ghost use Rattle.cell_graph.specs.Kept.{AreDefs, AreParents};
+    ghost use Rattle.notebook_meaning.specs.Graph as graph;
+
+    ghost Value = { List CellCode };
+
+    ghost coded = { Prim.hlevel (codes, block.the_row.coded) };
+
+    ghost view = { λ nb. nb.cells.items };
+
+    ghost invariant = { λ nb. (length nb.cells.items < 2 ^ 32) × AreDefs (view_cells nb.cells.items) nb.defined.items
+        × AreParents (view_cells nb.cells.items) nb.above.items × (nb.ordered.items ≡ graph.order (view_cells nb.cells.items)) };
+}
+
+impl Notebook {
+    /// The cells in file order.
+    pub fn cells(&self) -> &[CellCode]
+        ensures { result.now ≡ self.now }
+    {
+        self.cells.as_slice()
+    }
+
+    /// The names that a cell defines.
+    pub fn defs_of(&self, cell: u32) -> &Lines
+        requires { cell < length self.now }
+        ensures { result.now ≡ graph.defs_of (view_cells self.now) cell }
+    {
+        &self.defined[cell as usize]
+    }
+
+    /// The cells that define a name that the cell references, in file order.
+    pub fn parents(&self, cell: u32) -> &[u32]
+        requires { cell < length self.now }
+        ensures { result.now ≡ graph.parents (view_cells self.now) cell }
+    {
+        self.above[cell as usize].items()
+    }
+
+    /// The order in which the cells run: at each place stands the first cell in file order, not yet listed, all of whose parents
+    /// are listed.
+    pub fn order(&self) -> &[u32]
+        ensures { result.now ≡ graph.order (view_cells self.now) }
+    {
+        self.ordered.as_slice()
+    }
+}
