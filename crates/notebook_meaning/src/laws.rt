@@ -6,7 +6,7 @@ ghost use Rattle.notebook_meaning.specs.Meaning.{Scene, Env, value_of, block_of}
 ghost use Rattle.notebook_meaning.specs.Runs.{HasOneRun};
 ghost use Rattle.notebook_meaning.specs.Whole.{whole};
 ghost use Rattle.notebook_meaning.specs.Thin.{are_thin, file_lines, text_of};
-ghost use Rattle.notebook_meaning.specs.Once.{usual_budget, once_text};
+ghost use Rattle.notebook_meaning.specs.Once.{IsAccepted, usual_budget, once_text};
 ghost use Rattle.notebook_meaning.specs.Samples.{three_cells, three_cells_file, three_cells_text, lone_name, lone_name_text, failing, failing_text, doubled, cyclic};
 
 /// The order lists every cell just where no cell lies on a cycle.
@@ -26,6 +26,7 @@ pub fn worked_notebooks()
     ensures order { order three_cells ≡ 2 ∷ 1 ∷ 0 ∷ [] }
     ensures thin { are_thin three_cells ≡ true }
     ensures file { text_of (file_lines three_cells) ≡ three_cells_file }
+    ensures accepted { IsAccepted three_cells_file three_cells }
     ensures three { once_text three_cells ≡ three_cells_text }
     ensures costs { (whole three_cells usual_budget []).costs ≡ 2 ∷ 4 ∷ 2 ∷ [] }
     ensures none { once_text [] ≡ codes "{\"done\":0}\n" }
@@ -35,4 +36,5 @@ pub fn worked_notebooks()
     ensures single { (c : ℕ) → c < 3 → name_again doubled c ≡ None }
     ensures blocked { order cyclic ≡ [] }
     ensures cycle { LiesOnCycle cyclic 0 }
+    ensures aside { LiesOnCycle cyclic 3 → ⊥ }
 {}
