@@ -42,17 +42,21 @@ From c t budget (Failed k line left console) =
 From c t budget (Spent line left console) =
     (ms : List Mark) × (n : ℕ) × IsRun t (ms ++ Charge n line ∷ []) Cut × (cost ms + left ≡ budget) × (left < n) × (console ≡ c ++ printed ms)
 
-after_charge : {A : Type 0} (n line budget : ℕ) (c : List (List ℕ)) (t : Trace A) (s : Spending A) → n ≤ budget → From c t (budget - n) s → From c (Charges n line t) budget s
+after_charge : {A : Type 0} (n line budget : ℕ) (c : List (List ℕ)) (t : Trace A) (s : Spending A) → n ≤ budget
+    → From c t (budget - n) s → From c (Charges n line t) budget s
 after_charge n line budget c t (Got a left console) le h = (Charge n line ∷ h.0, charge h.1, omega (arith, h.2), h.3)
 after_charge n line budget c t (Failed k l left console) le h = (Charge n line ∷ h.0, charge h.1, omega (arith, h.2), h.3)
 after_charge n line budget c t (Spent l left console) le h = (Charge n line ∷ h.0, h.1, charge h.2, omega (arith, h.3), h.4, h.5)
 
-after_print : {A : Type 0} (x : List ℕ) (budget : ℕ) (c : List (List ℕ)) (t : Trace A) (s : Spending A) → From (c ++ x ∷ []) t budget s → From c (Prints x t) budget s
+after_print : {A : Type 0} (x : List ℕ) (budget : ℕ) (c : List (List ℕ)) (t : Trace A) (s : Spending A)
+    → From (c ++ x ∷ []) t budget s → From c (Prints x t) budget s
 after_print x budget c t (Got a left console) h = (Printed x ∷ h.0, print h.1, h.2, h.3 ∙ append_assoc c (x ∷ []) (printed h.0))
 after_print x budget c t (Failed k l left console) h = (Printed x ∷ h.0, print h.1, h.2, h.3 ∙ append_assoc c (x ∷ []) (printed h.0))
 after_print x budget c t (Spent l left console) h = (Printed x ∷ h.0, h.1, print h.2, h.3, h.4, h.5 ∙ append_assoc c (x ∷ []) (printed h.0))
 
-fits_or_not : {A : Type 0} (n line budget : ℕ) (c : List (List ℕ)) (t : Trace A) (b : Bool) → nat_le n budget ≡ b → From c t (budget - n) (spend t (budget - n) c) → From c (Charges n line t) budget (then_spend (if b then Got (tt {0}) (budget - n) c else Spent line budget c) (λ _. spend t))
+fits_or_not : {A : Type 0} (n line budget : ℕ) (c : List (List ℕ)) (t : Trace A) (b : Bool) → nat_le n budget ≡ b
+    → From c t (budget - n) (spend t (budget - n) c)
+    → From c (Charges n line t) budget (then_spend (if b then Got (tt {0}) (budget - n) c else Spent line budget c) (λ _. spend t))
 fits_or_not n line budget c t true e h = after_charge n line budget c t _ (leb-true n budget e) h
 fits_or_not n line budget c t false e h = ([], n, cut, omega arith, leb-false n budget e, sym (append-nil c))
 

@@ -1,8 +1,8 @@
--- The order lists every cell just where no cell lies on a cycle.
-use Rattle.std.proofs.Common.{◌≡◌, ℕ, zero, suc, ◌+◌, ◌<◌, ◌≤◌, Bool, true, false, not, ◌&&◌, ◌||◌, cond, ◌==◌, eqb, ◌⊎◌, inl, inr, ⊎_elim, IsTrue, List, [], ◌∷◌, ◌++◌, length, filter, find, slice_get, Option, Some, None, refl, sym, ap, ◌∙◌, subst, arith, length-append}
+-- The order has as many cells as the notebook just where no cell lies on a cycle.
+use Rattle.std.proofs.Common.{◌≡◌, ℕ, zero, suc, ◌+◌, ◌<◌, ◌≤◌, Bool, true, false, not, ◌||◌, ◌==◌, eqb, ◌⊎◌, inl, inr, ⊎_elim, List, [], ◌∷◌, ◌++◌, length, filter, find, Option, Some, None, refl, sym, ap, ◌∙◌, subst, arith}
 use Rattle.std.specs.List.{list_any, list_all, AllByRecursion, IsDistinct}
 use Rattle.std.specs.Cmp.{nat_eq_equiv}
-use Rattle.std.proofs.lemmas.Bool.{cases_Bool, cases_eq, eq-eqb, eqb-true, and_parts, and_cases, or_cases, or_from, or_left, or_parts, or_right, cases_lt, not-true, not_from_false, both_ways}
+use Rattle.std.proofs.lemmas.Bool.{cases_Bool, cases_eq, eq-eqb, eqb-true, and_parts, and_cases, or_cases, or_left, or_parts, or_right, cases_lt, not-true, not_from_false, both_ways}
 use Rattle.std.proofs.lemmas.List.Folds.{list_any-append}
 use Rattle.std.proofs.lemmas.List.{length_push}
 use Rattle.std.proofs.lemmas.Map.Keys.{IsDistinct-push}
@@ -11,7 +11,7 @@ use Rattle.std.proofs.lemmas.Option.{slice_get_past}
 use Rattle.py_tree.specs.Names.{Name, is_among}
 use Rattle.py_tree.specs.Scope.{defs}
 use Rattle.py_tree.specs.Trees.{Cell}
-use Rattle.notebook_meaning.specs.Graph.{names_at, defs_of, refs_of, edge, numbers_from, all_cells, is_in, parents, IsChain, LiesOnCycle, is_ready, next_cell, with_next, places, order, NoneCyclic}
+use Rattle.notebook_meaning.specs.Graph.{names_at, defs_of, refs_of, edge, numbers_from, all_cells, is_in, IsChain, LiesOnCycle, is_ready, next_cell, with_next, places, order, NoneCyclic}
 
 -- ---- numbers in lists
 
@@ -62,14 +62,15 @@ none_found p (d ∷ ds) c e h = ⊎_elim
 
 -- ---- tests of the numbers that a filter keeps
 
-all_kept : (p q : ℕ → Bool) (cs : List ℕ) (c : ℕ) → list_all q (filter p cs) ≡ true → is_in c cs ≡ true → p c ≡ true → q c ≡ true
+all_kept : (p q : ℕ → Bool) (cs : List ℕ) (c : ℕ) → list_all q (filter p cs) ≡ true → is_in c cs ≡ true → p c ≡ true
+    → q c ≡ true
 all_kept p q [] c all h kept = absurd (both_ways false refl h)
 all_kept p q (d ∷ ds) c all h kept = ⊎_elim
     (λ yes.
-        let parts = and_parts (q d) (list_all q (filter p ds)) (rw yes at all) in
-        ⊎_elim (λ same. sym (ap q (eqb-true d c same)) ∙ parts.0) (λ later. all_kept p q ds c parts.1 later kept) (or_cases (d == c) _ h))
+    let parts = and_parts (q d) (list_all q (filter p ds)) (rw yes at all) in
+    ⊎_elim (λ same. sym (ap q (eqb-true d c same)) ∙ parts.0) (λ later. all_kept p q ds c parts.1 later kept) (or_cases (d == c) _ h))
     (λ no.
-        ⊎_elim (λ same. absurd (both_ways (p d) no (ap p (eqb-true d c same) ∙ kept))) (λ later. all_kept p q ds c (rw no at all) later kept) (or_cases (d == c) _ h))
+    ⊎_elim (λ same. absurd (both_ways (p d) no (ap p (eqb-true d c same) ∙ kept))) (λ later. all_kept p q ds c (rw no at all) later kept) (or_cases (d == c) _ h))
     (cases_Bool (p d))
 
 -- a number that the filter keeps, and that fails the test
@@ -86,10 +87,10 @@ one_fails : (p q : ℕ → Bool) (cs : List ℕ) → list_all q (filter p cs) �
 one_fails p q [] h = absurd (both_ways true h refl)
 one_fails p q (d ∷ ds) h = ⊎_elim
     (λ yes.
-        ⊎_elim
-        (λ here. record { at = d; within = or_left (d == d) _ (eq-eqb d d refl); kept = yes; fails = here })
-        (λ rest. later_failing p q d ds (one_fails p q ds rest))
-        (and_cases (q d) (list_all q (filter p ds)) (rw yes at h)))
+    ⊎_elim
+    (λ here. record { at = d; within = or_left (d == d) _ (eq-eqb d d refl); kept = yes; fails = here })
+    (λ rest. later_failing p q d ds (one_fails p q ds rest))
+    (and_cases (q d) (list_all q (filter p ds)) (rw yes at h)))
     (λ no. later_failing p q d ds (one_fails p q ds (rw no at h)))
     (cases_Bool (p d))
 
@@ -104,9 +105,9 @@ from_cell : (nb : List Cell) (a b : ℕ) → edge nb a b ≡ true → a < length
 from_cell nb a b h = ⊎_elim
     (λ below. below)
     (λ past.
-        let none : defs_of nb a ≡ [] = ap (names_at defs) (slice_get_past nb a past) in
-        let bad : edge nb a b ≡ false = ap (λ ds. list_any (λ x. is_among x ds) (refs_of nb b)) none ∙ none_among (refs_of nb b) in
-        absurd (both_ways _ bad h))
+    let none : defs_of nb a ≡ [] = ap (names_at defs) (slice_get_past nb a past) in
+    let bad : edge nb a b ≡ false = ap (λ ds. list_any (λ x. is_among x ds) (refs_of nb b)) none ∙ none_among (refs_of nb b) in
+    absurd (both_ways _ bad h))
     (cases_lt a (length nb))
 
 is_cell_number : (nb : List Cell) (c : ℕ) → c < length nb → is_in c (all_cells nb) ≡ true
@@ -116,13 +117,15 @@ cell_number_below : (nb : List Cell) (c : ℕ) → is_in c (all_cells nb) ≡ tr
 cell_number_below nb c h = let below = numbers_below 0 nb c h in omega arith
 
 -- each parent of a cell that is ready is listed
-parent_listed : (nb : List Cell) (listed : List ℕ) (a b : ℕ) → is_ready nb listed b ≡ true → edge nb a b ≡ true → is_in a listed ≡ true
+parent_listed : (nb : List Cell) (listed : List ℕ) (a b : ℕ) → is_ready nb listed b ≡ true → edge nb a b ≡ true
+    → is_in a listed ≡ true
 parent_listed nb listed a b ready e =
     let parts = and_parts (not (is_in b listed)) _ ready in
     all_kept (λ p. edge nb p b) (λ p. is_in p listed) (all_cells nb) a parts.1 (is_cell_number nb a (from_cell nb a b e)) e
 
 -- a cell that isn't listed and isn't ready has a parent that isn't listed
-parent_unlisted : (nb : List Cell) (listed : List ℕ) (b : ℕ) → is_ready nb listed b ≡ false → is_in b listed ≡ false → Failing (λ p. edge nb p b) (λ p. is_in p listed) (all_cells nb)
+parent_unlisted : (nb : List Cell) (listed : List ℕ) (b : ℕ) → is_ready nb listed b ≡ false → is_in b listed ≡ false
+    → Failing (λ p. edge nb p b) (λ p. is_in p listed) (all_cells nb)
 parent_unlisted nb listed b unready absent = ⊎_elim
     (λ listed_after. absurd (both_ways _ listed_after (not_from_false _ absent)))
     (λ some. one_fails _ _ (all_cells nb) some)
@@ -131,7 +134,8 @@ parent_unlisted nb listed b unready absent = ⊎_elim
 -- ---- the first places
 
 -- the cell found for the next place, where there is one
-next_found : (nb : List Cell) (listed : List ℕ) (c : ℕ) → next_cell nb listed ≡ Some c → (is_ready nb listed c ≡ true) × (c < length nb)
+next_found : (nb : List Cell) (listed : List ℕ) (c : ℕ) → next_cell nb listed ≡ Some c
+    → (is_ready nb listed c ≡ true) × (c < length nb)
 next_found nb listed c e =
     let f = found (is_ready nb listed) (all_cells nb) c e in
     (f.0, cell_number_below nb c f.1)
@@ -143,7 +147,8 @@ kept_by (Some d) listed c h = in_more c d listed h
 kept_next : (nb : List Cell) (k c : ℕ) → is_in c (places nb k) ≡ true → is_in c (places nb (suc k)) ≡ true
 kept_next nb k c h = kept_by (next_cell nb (places nb k)) (places nb k) c h
 
-listed_by : (nb : List Cell) (listed : List ℕ) (o : Option ℕ) (c : ℕ) → next_cell nb listed ≡ o → is_in c (with_next o listed) ≡ true → (is_in c listed ≡ true) ⊎ ((is_ready nb listed c ≡ true) × (c < length nb))
+listed_by : (nb : List Cell) (listed : List ℕ) (o : Option ℕ) (c : ℕ) → next_cell nb listed ≡ o
+    → is_in c (with_next o listed) ≡ true → (is_in c listed ≡ true) ⊎ ((is_ready nb listed c ≡ true) × (c < length nb))
 listed_by nb listed None c e h = inl h
 listed_by nb listed (Some d) c e h = ⊎_elim
     (λ before. inl before)
@@ -151,14 +156,16 @@ listed_by nb listed (Some d) c e h = ⊎_elim
     (in_more_cases c d listed h)
 
 -- a cell of the first k + 1 places stands in the first k, or was ready then
-listed_next : (nb : List Cell) (k c : ℕ) → is_in c (places nb (suc k)) ≡ true → (is_in c (places nb k) ≡ true) ⊎ ((is_ready nb (places nb k) c ≡ true) × (c < length nb))
+listed_next : (nb : List Cell) (k c : ℕ) → is_in c (places nb (suc k)) ≡ true
+    → (is_in c (places nb k) ≡ true) ⊎ ((is_ready nb (places nb k) c ≡ true) × (c < length nb))
 listed_next nb k c h = listed_by nb (places nb k) (next_cell nb (places nb k)) c refl h
 
 places_below : (nb : List Cell) (k c : ℕ) → is_in c (places nb k) ≡ true → c < length nb
 places_below nb zero c h = absurd (both_ways false refl h)
 places_below nb (suc k) c h = ⊎_elim (places_below nb k c) (λ ready. ready.1) (listed_next nb k c h)
 
-distinct_by : (nb : List Cell) (listed : List ℕ) (o : Option ℕ) → next_cell nb listed ≡ o → IsDistinct eqb listed → IsDistinct eqb (with_next o listed)
+distinct_by : (nb : List Cell) (listed : List ℕ) (o : Option ℕ) → next_cell nb listed ≡ o → IsDistinct eqb listed
+    → IsDistinct eqb (with_next o listed)
 distinct_by nb listed None e d = d
 distinct_by nb listed (Some c) e d =
     let absent = not-true _ (and_parts (not (is_in c listed)) _ (next_found nb listed c e).0).0 in
@@ -172,7 +179,8 @@ places_distinct nb (suc k) = distinct_by nb (places nb k) (next_cell nb (places 
 -- ---- the order lists no cell of a cycle
 
 -- a parent of one of the first k + 1 cells is one of the first k
-step_back : (nb : List Cell) (k a b : ℕ) → edge nb a b ≡ true → is_in b (places nb (suc k)) ≡ true → is_in a (places nb k) ≡ true
+step_back : (nb : List Cell) (k a b : ℕ) → edge nb a b ≡ true → is_in b (places nb (suc k)) ≡ true
+    → is_in a (places nb k) ≡ true
 step_back nb zero a b e h = ⊎_elim
     (λ before. absurd (both_ways false refl before))
     (λ ready. parent_listed nb [] a b ready.0 e)
@@ -183,7 +191,8 @@ step_back nb (suc k) a b e h = ⊎_elim
     (listed_next nb (suc k) b h)
 
 -- a chain that ends in the first k + 1 places begins in the first k
-chain_back : (nb : List Cell) (k a : ℕ) (between : List ℕ) (c : ℕ) → IsChain nb (a ∷ between ++ c ∷ []) → is_in c (places nb (suc k)) ≡ true → is_in a (places nb k) ≡ true
+chain_back : (nb : List Cell) (k a : ℕ) (between : List ℕ) (c : ℕ) → IsChain nb (a ∷ between ++ c ∷ [])
+    → is_in c (places nb (suc k)) ≡ true → is_in a (places nb k) ≡ true
 chain_back nb k a [] c chain h = step_back nb k a c chain.0 h
 chain_back nb k a (b ∷ bs) c chain h = step_back nb k a b chain.0 (kept_next nb k b (chain_back nb k b bs c chain.1 h))
 
@@ -196,12 +205,12 @@ all_listed : (nb : List Cell) (c : ℕ) → length (order nb) ≡ length nb → 
 all_listed nb c full below = ⊎_elim
     (λ yes. yes)
     (λ no.
-        let more : IsDistinct eqb (order nb ++ c ∷ []) = IsDistinct-push nat_eq_equiv (order nb) c (places_distinct nb (length nb)) (same_test c (order nb) ∙ no) in
-        let within : (q : ℕ) → list_any (eqb q) (order nb ++ c ∷ []) ≡ true → q < length nb =
-            λ q h. ⊎_elim (places_below nb (length nb) q) (λ same. subst (λ (n : ℕ). n < length nb) same below) (in_more_cases q c (order nb) (sym (same_test q (order nb ++ c ∷ [])) ∙ h)) in
-        let long = length-le_from_distinct_below (order nb ++ c ∷ []) (length nb) more within in
-        let size = length_push (order nb) c in
-        absurd (omega arith))
+    let more : IsDistinct eqb (order nb ++ c ∷ []) = IsDistinct-push nat_eq_equiv (order nb) c (places_distinct nb (length nb)) (same_test c (order nb) ∙ no) in
+    let within : (q : ℕ) → list_any (eqb q) (order nb ++ c ∷ []) ≡ true → q < length nb =
+    λ q h. ⊎_elim (places_below nb (length nb) q) (λ same. subst (λ (n : ℕ). n < length nb) same below) (in_more_cases q c (order nb) (sym (same_test q (order nb ++ c ∷ [])) ∙ h)) in
+    let long = length-le_from_distinct_below (order nb ++ c ∷ []) (length nb) more within in
+    let size = length_push (order nb) c in
+    absurd (omega arith))
     (cases_Bool (is_in c (order nb)))
 
 -- where the order has as many cells as the notebook, no cell lies on a cycle
@@ -210,11 +219,13 @@ full_is_free nb full c below cycle = not_on_cycle nb (length nb) c (all_listed n
 
 -- ---- a short order leaves a cell of a cycle
 
-stuck_by : (nb : List Cell) (listed : List ℕ) (o : Option ℕ) → next_cell nb listed ≡ o → (length (with_next o listed) ≡ length listed + 1) ⊎ (next_cell nb (with_next o listed) ≡ None)
+stuck_by : (nb : List Cell) (listed : List ℕ) (o : Option ℕ) → next_cell nb listed ≡ o
+    → (length (with_next o listed) ≡ length listed + 1) ⊎ (next_cell nb (with_next o listed) ≡ None)
 stuck_by nb listed None e = inr e
 stuck_by nb listed (Some c) e = inl (length_push listed c)
 
-still_stuck : (nb : List Cell) (listed : List ℕ) (o : Option ℕ) → next_cell nb listed ≡ None → next_cell nb listed ≡ o → next_cell nb (with_next o listed) ≡ None
+still_stuck : (nb : List Cell) (listed : List ℕ) (o : Option ℕ) → next_cell nb listed ≡ None → next_cell nb listed ≡ o
+    → next_cell nb (with_next o listed) ≡ None
 still_stuck nb listed None e same = e
 still_stuck nb listed (Some c) e same = let bad : None ≡ Some c = sym e ∙ same in absurd cc
 
@@ -227,7 +238,8 @@ full_or_stuck nb (suc k) = ⊎_elim
     (full_or_stuck nb k)
 
 -- a chain that leads to a cell leads to each cell in it
-chain_to : (nb : List Cell) (a : ℕ) (cs : List ℕ) (c : ℕ) → IsChain nb (a ∷ cs) → is_in c cs ≡ true → (between : List ℕ) × IsChain nb (a ∷ between ++ c ∷ [])
+chain_to : (nb : List Cell) (a : ℕ) (cs : List ℕ) (c : ℕ) → IsChain nb (a ∷ cs) → is_in c cs ≡ true
+    → (between : List ℕ) × IsChain nb (a ∷ between ++ c ∷ [])
 chain_to nb a [] c chain h = absurd (both_ways false refl h)
 chain_to nb a (d ∷ ds) c chain h = ⊎_elim
     (λ same. ([], (subst (λ (n : ℕ). edge nb a n ≡ true) (eqb-true d c same) chain.0, tt)))
@@ -261,7 +273,8 @@ lone_cell nb listed c below absent = record {
 }
 
 -- a walk, with a parent of its first cell before it
-longer : (nb : List Cell) (listed : List ℕ) (steps p : ℕ) (w : Walk nb listed steps) → edge nb p w.first ≡ true → is_in p listed ≡ false → is_in p (w.first ∷ w.rest) ≡ false → Walk nb listed (suc steps)
+longer : (nb : List Cell) (listed : List ℕ) (steps p : ℕ) (w : Walk nb listed steps) → edge nb p w.first ≡ true
+    → is_in p listed ≡ false → is_in p (w.first ∷ w.rest) ≡ false → Walk nb listed (suc steps)
 unfolding IsDistinct
 longer nb listed steps p w e absent new = record {
   first = p;
@@ -274,7 +287,8 @@ longer nb listed steps p w e absent new = record {
 }
 
 -- where no cell is ready and none lies on a cycle, walks of each length lead back from a cell that isn't listed
-walk : (nb : List Cell) (listed : List ℕ) (c : ℕ) → next_cell nb listed ≡ None → NoneCyclic nb → c < length nb → is_in c listed ≡ false → (steps : ℕ) → Walk nb listed steps
+walk : (nb : List Cell) (listed : List ℕ) (c : ℕ) → next_cell nb listed ≡ None → NoneCyclic nb → c < length nb
+    → is_in c listed ≡ false → (steps : ℕ) → Walk nb listed steps
 walk nb listed c stuck free below absent zero = lone_cell nb listed c below absent
 walk nb listed c stuck free below absent (suc steps) =
     let w = walk nb listed c stuck free below absent steps in
@@ -283,7 +297,7 @@ walk nb listed c stuck free below absent (suc steps) =
     let parent = parent_unlisted nb listed w.first unready w.unlisted in
     ⊎_elim
     (λ met.
-        absurd (free parent.at (from_cell nb parent.at w.first parent.kept) (chain_to nb parent.at (w.first ∷ w.rest) parent.at (parent.kept, w.chain) met)))
+    absurd (free parent.at (from_cell nb parent.at w.first parent.kept) (chain_to nb parent.at (w.first ∷ w.rest) parent.at (parent.kept, w.chain) met)))
     (λ new. longer nb listed steps parent.at w parent.kept parent.fails new)
     (cases_Bool (is_in parent.at (w.first ∷ w.rest)))
 
@@ -299,9 +313,9 @@ each_or_missing : (cs : List ℕ) (n : ℕ) → ((q : ℕ) → q < n → is_in q
 each_or_missing cs zero = inl (λ q h. absurd (omega arith))
 each_or_missing cs (suc n) = ⊎_elim
     (λ each. ⊎_elim
-        (λ here. inl (λ q h. ⊎_elim (λ same. sym (ap (λ x. is_in x cs) same) ∙ here) (λ apart. each q (omega arith)) (cases_eq n q)))
-        (λ missing. inr (n, omega arith, missing))
-        (cases_Bool (is_in n cs)))
+    (λ here. inl (λ q h. ⊎_elim (λ same. sym (ap (λ x. is_in x cs) same) ∙ here) (λ apart. each q (omega arith)) (cases_eq n q)))
+    (λ missing. inr (n, omega arith, missing))
+    (cases_Bool (is_in n cs)))
     (λ missing. inr (missing.0, omega (arith, missing.1), missing.2))
     (each_or_missing cs n)
 
@@ -317,6 +331,6 @@ pub short_is_cyclic : (nb : List Cell) → length (order nb) < length nb → Non
 short_is_cyclic nb short free = ⊎_elim
     (λ full. omega arith)
     (λ stuck.
-        let missing = missing_below (order nb) (length nb) short in
-        no_long_walk nb (order nb) (walk nb (order nb) missing.0 stuck free missing.1 missing.2 (length nb)))
+    let missing = missing_below (order nb) (length nb) short in
+    no_long_walk nb (order nb) (walk nb (order nb) missing.0 stuck free missing.1 missing.2 (length nb)))
     (full_or_stuck nb (length nb))

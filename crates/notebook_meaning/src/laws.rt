@@ -9,7 +9,7 @@ ghost use Rattle.notebook_meaning.specs.Thin.{are_thin, file_lines, text_of};
 ghost use Rattle.notebook_meaning.specs.Once.{IsAccepted, usual_budget, once_text};
 ghost use Rattle.notebook_meaning.specs.Samples.{three_cells, three_cells_file, three_cells_text, lone_name, lone_name_text, failing, failing_text, doubled, cyclic};
 
-/// The order lists every cell just where no cell lies on a cycle.
+/// The order has as many cells as the notebook just where no cell lies on a cycle.
 pub fn order_and_cycles()
     ensures full { (nb : List Cell) → length (order nb) ≡ length nb → NoneCyclic nb }
     ensures short { (nb : List Cell) → length (order nb) < length nb → NoneCyclic nb → ⊥ }
