@@ -16,7 +16,7 @@ use Rattle.notebook_meaning.specs.declared.frames.OutputKind.TheVariants as outp
 use Rattle.notebook_meaning.specs.declared.frames.CellError.{CellError}
 use Rattle.notebook_meaning.specs.declared.frames.CellFrame.{CellFrame}
 use Rattle.notebook_meaning.specs.Graph.{parents, order}
-use Rattle.notebook_meaning.specs.Meaning.{Env, Scene, Flow}
+use Rattle.notebook_meaning.specs.Meaning.{Env, Flow}
 use Rattle.notebook_meaning.specs.Spending.{Spending, Got, Failed, Spent, runs, cost_of, console_of}
 
 -- what a value shows as the output of a cell
