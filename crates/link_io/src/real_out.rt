@@ -5,7 +5,6 @@ use crate::files::Failed;
 use crate::sink::Sink;
 use std::io::{ErrorKind, Print};
 
-
 /// The standard output. Nothing that it took waits in a buffer.
 #[derive(Drop)]
 pub struct RealOut<R> {

@@ -25,10 +25,8 @@ fn read_piece<F: Files>(
     buffer: &mut [u8],
 ) -> Result<usize, ReadFault>
     requires { 0 < length buffer.old }
-    ensures read {
-        IfSome (F.holds files.old name.now)
-        (λ all. IfOk result (λ count. HasNext all bytes.old.items bytes.new.items count))
-    }
+    ensures read { IfSome (F.holds files.old name.now)
+        (λ all. IfOk result (λ count. HasNext all bytes.old.items bytes.new.items count)) }
     ensures grown { IfOk result (λ count. length bytes.new.items ≡ length bytes.old.items + count) }
     ensures within { IfOk result (λ count. count ≤ length buffer.old) }
     ensures same { (other : List ℕ) → F.holds files.new other ≡ F.holds files.old other }
@@ -45,7 +43,12 @@ fn read_piece<F: Files>(
 }
 
 /// The bytes of a file, or the first `limit + 1` of them where it has more. No more is read or held.
-pub fn read_file<F: Files>(alloc: Global, files: &mut F, name: &str, limit: u64) -> Result<Vec<u8>, ReadFault>
+pub fn read_file<F: Files>(
+    alloc: Global,
+    files: &mut F,
+    name: &str,
+    limit: u64,
+) -> Result<Vec<u8>, ReadFault>
     requires { limit + 1 < 2 ^ 63 }
     ensures read { IfSome (F.holds files.old name.now) (λ all. IfOk result (λ bytes. bytes.items ≡ take (limit + 1) all)) }
     ensures short { IfOk result (λ bytes. length bytes.items ≤ limit + 1) }

@@ -1,5 +1,5 @@
 -- What was taken before, and the piece.
-use Rattle.std.proofs.Common.{◌≡◌, ◌∙◌, ap, arith, take, drop, length, ◌++◌, ◌-◌, append_assoc}
+use Rattle.std.proofs.Common.{◌∙◌, ap, arith, take, ◌++◌, append_assoc}
 use Rattle.link_io.proofs.Taken.{took_both, two_parts}
 use Rattle.link_io.proofs.whole_text.write_all.Goals as goal
 
