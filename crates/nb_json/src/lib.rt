@@ -2,5 +2,6 @@
 #![tactic(auto)]
 
 mod frame_json;
+mod json_text;
 
 pub use frame_json::push_frame;
