@@ -3,5 +3,7 @@
 
 mod frame_json;
 mod json_text;
+#[cfg(test)]
+mod tests;
 
 pub use frame_json::push_frame;
