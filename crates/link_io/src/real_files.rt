@@ -42,7 +42,9 @@ fn read_some<S: Read>(source: &mut S, buf: &mut [u8]) -> Result<usize, Failed>
 
 impl<R: SystemFiles + AllocGlobal> RealFiles<R> {
     /// No file is open yet.
-    pub fn new(runtime: R) -> Self {
+    pub fn new(runtime: R) -> Self
+        ensures { result.faults ≡ 0 }
+    {
         RealFiles {
             runtime,
             last: None,

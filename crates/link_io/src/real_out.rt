@@ -1,5 +1,5 @@
 // The standard output.
-ghost use Rattle.std.specs.Prelude.{◌<◌, ◌≤◌, None, length, IfOk};
+ghost use Rattle.std.specs.Prelude.{◌≡◌, ◌<◌, ◌≤◌, None, length, IfOk};
 
 use crate::files::Failed;
 use crate::sink::Sink;
@@ -14,7 +14,9 @@ pub struct RealOut<R> {
 
 impl<R: Print> RealOut<R> {
     /// The standard output of a program.
-    pub fn new(runtime: R) -> Self {
+    pub fn new(runtime: R) -> Self
+        ensures { result.faults ≡ 0 }
+    {
         RealOut { runtime, faults: 0 }
     }
 
