@@ -19,3 +19,9 @@ Took before now text = IfSome before (λ old. now ≡ Some (old ++ text))
 -- it took a beginning of this text and nothing else
 abbrev pub TookPart : Option (List ℕ) → Option (List ℕ) → List ℕ → Type 0
 TookPart before now text = (part rest : List ℕ) × (part ++ rest ≡ text) × Took before now part
+
+-- n bytes of the file, from where `before` ends, were appended to it; there are 0 only at the file's end
+pub record HasNext (all before now : List ℕ) (n : ℕ) : Type 0 where
+  pub appended : now ≡ before ++ take n (drop (length before) all)
+  pub there : n ≤ length all - length before
+  pub at_end : n ≡ 0 → length all ≤ length before

@@ -1,4 +1,6 @@
 // A sink in memory.
+ghost use Rattle.std.specs.Prelude.{Some};
+
 use crate::files::Failed;
 use crate::sink::Sink;
 
