@@ -1,5 +1,5 @@
 -- A line of the code in its block.
-use Rattle.std.proofs.Common.{◌≡◌, ◌∙◌, ap, sym, subst, refl, ℕ, suc, ◌+◌, ◌<◌, Bool, true, false, IsTrue, ◌&&◌, List, ◌∷◌, ◌++◌, length, drop, get_or, add-one}
+use Rattle.std.proofs.Common.{◌≡◌, ◌∙◌, ap, sym, subst, ℕ, suc, ◌+◌, ◌<◌, true, IsTrue, ◌&&◌, List, ◌∷◌, ◌++◌, length, drop, get_or, add-one}
 use Rattle.std.proofs.Math.Seq.{drop-cons}
 use Rattle.py_tree.specs.declared.tree.Stmt.{Stmt, out-Stmt, roll-out-Stmt, fold-roll-Stmt}
 use Rattle.py_tree.specs.Levels.{is_levelled_head, are_levelled}
@@ -8,6 +8,7 @@ use Rattle.py_tree.specs.Scope.{bound, head_binds}
 use Rattle.py_tree.specs.Trees.{Head, Stmts, stmt, then_comes}
 use Rattle.py_tree.specs.Trees as pure
 use Rattle.py_tree.specs.View.{view_head, view_block, view_stmt, view_stmts, block_step, stmt_step}
+use Rattle.py_eval.proofs.Conjunctions.{and_left, and_right}
 use Rattle.py_eval.proofs.Kept.{among_left, among_right}
 
 view_line : (s : Stmt) → view_stmt s ≡ stmt (out-Stmt s).number (view_head (out-Stmt s).line) (view_block (out-Stmt s).block)
@@ -19,14 +20,6 @@ pub place : (ss : List Stmt) (i : ℕ) (s : Stmt) → i < length ss → s ≡ ge
 place ss i s lt is =
     ap view_stmts (drop-cons ss i s lt ∙ (λ j. sym is j ∷ drop (suc i) ss) ∙ ap (λ n. s ∷ drop n ss) (sym (add-one i)))
     ∙ λ j. then_comes (view_line s j) (view_stmts (drop (i + 1) ss))
-
-and_left : (a b : Bool) → (a && b) ≡ true → a ≡ true
-and_left true b h = refl
-and_left false b h = h
-
-and_right : (a b : Bool) → (a && b) ≡ true → b ≡ true
-and_right true b h = h
-and_right false b h = absurd (cc)
 
 module _ (lines rest block : Stmts) (n : ℕ) (head : Head) (is : lines ≡ then_comes (stmt n head block) rest) where
   levelled : IsTrue (are_levelled lines) → (is_levelled_head head && are_levelled block && are_levelled rest) ≡ true
