@@ -2,11 +2,13 @@
 #![tactic(auto)]
 
 mod lists;
+mod literal;
 mod row;
 mod token;
 mod tree;
 
 pub use lists::{Spelling, Spellings};
+pub use literal::literal_int;
 pub use row::Row;
 pub use token::{Token, TokenKind};
 pub use tree::{Block, CellCode, Expr, Line, Stmt};

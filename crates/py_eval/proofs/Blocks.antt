@@ -1,0 +1,38 @@
+-- A line of the code in its block.
+use Rattle.std.proofs.Common.{◌≡◌, ◌∙◌, ap, sym, subst, ℕ, suc, ◌+◌, ◌<◌, true, IsTrue, ◌&&◌, List, ◌∷◌, ◌++◌, length, drop, get_or, add-one}
+use Rattle.std.proofs.Math.Seq.{drop-cons}
+use Rattle.py_tree.specs.declared.tree.Stmt.{Stmt, out-Stmt, roll-out-Stmt, fold-roll-Stmt}
+use Rattle.py_tree.specs.Levels.{is_levelled_head, are_levelled}
+use Rattle.py_tree.specs.Names.{Name, is_among}
+use Rattle.py_tree.specs.Scope.{bound, head_binds}
+use Rattle.py_tree.specs.Trees.{Head, Stmts, stmt, then_comes}
+use Rattle.py_tree.specs.Trees as pure
+use Rattle.py_tree.specs.View.{view_head, view_block, view_stmt, view_stmts, block_step, stmt_step}
+use Rattle.py_eval.proofs.Conjunctions.{and_left, and_right}
+use Rattle.py_eval.proofs.Kept.{among_left, among_right}
+
+view_line : (s : Stmt) → view_stmt s ≡ stmt (out-Stmt s).number (view_head (out-Stmt s).line) (view_block (out-Stmt s).block)
+view_line s = ap view_stmt (sym (roll-out-Stmt s)) ∙ fold-roll-Stmt Stmts pure.Stmt block_step stmt_step (out-Stmt s)
+
+-- what is left of the lines begins with the next one
+pub place : (ss : List Stmt) (i : ℕ) (s : Stmt) → i < length ss → s ≡ get_or ss i s →
+    view_stmts (drop i ss) ≡ then_comes (stmt (out-Stmt s).number (view_head (out-Stmt s).line) (view_block (out-Stmt s).block)) (view_stmts (drop (i + 1) ss))
+place ss i s lt is =
+    ap view_stmts (drop-cons ss i s lt ∙ (λ j. sym is j ∷ drop (suc i) ss) ∙ ap (λ n. s ∷ drop n ss) (sym (add-one i)))
+    ∙ λ j. then_comes (view_line s j) (view_stmts (drop (i + 1) ss))
+
+module _ (lines rest block : Stmts) (n : ℕ) (head : Head) (is : lines ≡ then_comes (stmt n head block) rest) where
+  levelled : IsTrue (are_levelled lines) → (is_levelled_head head && are_levelled block && are_levelled rest) ≡ true
+  levelled h = subst (λ ss. are_levelled ss ≡ true) is h
+
+  pub first_levelled : IsTrue (are_levelled lines) → IsTrue (is_levelled_head head)
+  first_levelled h = and_left (is_levelled_head head) (are_levelled block) (and_left (is_levelled_head head && are_levelled block) (are_levelled rest) (levelled h))
+
+  pub rest_levelled : IsTrue (are_levelled lines) → IsTrue (are_levelled rest)
+  rest_levelled h = and_right (is_levelled_head head && are_levelled block) (are_levelled rest) (levelled h)
+
+  pub first_binds : (x : Name) → is_among x (head_binds head) ≡ true → is_among x (bound lines) ≡ true
+  first_binds x h = ap (λ ss. is_among x (bound ss)) is ∙ among_left x (head_binds head ++ bound block) (bound rest) (among_left x (head_binds head) (bound block) h)
+
+  pub rest_binds : (x : Name) → is_among x (bound rest) ≡ true → is_among x (bound lines) ≡ true
+  rest_binds x h = ap (λ ss. is_among x (bound ss)) is ∙ among_right x (head_binds head ++ bound block) (bound rest) h

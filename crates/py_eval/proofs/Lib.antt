@@ -1,0 +1,5 @@
+pub mod Blocks
+pub mod Conjunctions
+pub mod Kept
+pub mod Sequence
+pub mod Sums

@@ -1,0 +1,31 @@
+-- Each way through a sum.
+use Rattle.std.proofs.Common.{arith, ◌≡◌, IsTrue, refl}
+use Rattle.py_tree.specs.Levels.{is_levelled}
+use Rattle.py_tree.specs.Trees.{sum}
+use Rattle.py_tree.specs.View.{view}
+use Rattle.py_eval.proofs.Sequence.{exit, onward, paid}
+use Rattle.py_eval.proofs.Sums.{is_sum, right_levelled}
+use Rattle.py_eval.proofs.eval.+eval.Goals as goal
+
+pub returns-in_err-x-in-Sum-clause-meets : goal.returns-in_err-x-in-Sum-clause-meets
+returns-in_err-x-in-Sum-clause-meets t c =
+    let is : view c.args.tree.now ≡ sum (view c.get.result.now) (view c.in-Sum.b) = is_sum _ _ _ _ _ c.in-Sum.is c.get.ensures refl in
+    rw (is, paid _ 1 c.args.line _ _ c.in_ok-charge.ensures.meets)
+    (exit _ _ _ _ _ _ _ c.from_residual-in_err-x-in-Sum.ensures.1 c.in_err-x-in-Sum.ensures.meets)
+
+pub returns-in_err-y-in-Sum-clause-meets : goal.returns-in_err-y-in-Sum-clause-meets
+returns-in_err-y-in-Sum-clause-meets t c =
+    let is : view c.args.tree.now ≡ sum (view c.get.result.now) (view c.get-in-Sum.result.now) = is_sum _ _ _ _ _ c.in-Sum.is c.get.ensures c.get-in-Sum.ensures in
+    rw (is, paid _ 1 c.args.line _ _ c.in_ok-charge.ensures.meets, onward _ _ c.in_ok-x-in-Sum.x _ _ c.in_ok-x-in-Sum.ensures.meets)
+    (exit _ _ _ _ _ _ _ c.from_residual-in_err-y-in-Sum.ensures.1 c.in_err-y-in-Sum.ensures.meets)
+
+pub returns-in_ok-y-in-Sum-clause-meets : goal.returns-in_ok-y-in-Sum-clause-meets
+returns-in_ok-y-in-Sum-clause-meets t c =
+    let is : view c.args.tree.now ≡ sum (view c.get.result.now) (view c.get-in-Sum.result.now) = is_sum _ _ _ _ _ c.in-Sum.is c.get.ensures c.get-in-Sum.ensures in
+    rw (is, paid _ 1 c.args.line _ _ c.in_ok-charge.ensures.meets, onward _ _ c.in_ok-x-in-Sum.x _ _ c.in_ok-x-in-Sum.ensures.meets, onward _ _ c.in_ok-y-in-Sum.y _ _ c.in_ok-y-in-Sum.ensures.meets)
+    (c.sum.ensures _)
+
+pub eval-requires-in-Sum : goal.eval-requires-in-Sum
+eval-requires-in-Sum t c =
+    let levelled : IsTrue (is_levelled (view c.get-in-Sum.result.now)) = right_levelled _ _ _ _ c.get-in-Sum.ensures c.in-Sum.is c.requires in
+    (omega (arith, c.in_ok-charge.ensures.paid, c.in_ok-x-in-Sum.ensures.used), levelled)

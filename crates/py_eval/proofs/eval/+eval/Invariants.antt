@@ -1,0 +1,5 @@
+-- Each node is charged before its sides are evaluated.
+use Rattle.py_eval.proofs.eval.+eval.Given as goal
+
+abbrev pub decreases-eval : goal.decreases-eval
+decreases-eval l = l.left.now

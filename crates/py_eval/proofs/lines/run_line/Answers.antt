@@ -1,0 +1,26 @@
+-- Each way through a line.
+use Rattle.std.proofs.Common.{ap, refl}
+use Rattle.py_tree.specs.View.{view_head}
+use Rattle.py_eval.proofs.Sequence.{exit, onward}
+use Rattle.py_eval.proofs.lines.run_line.Goals as goal
+
+pub returns-in_err-eval-in-Value-clause-meets : goal.returns-in_err-eval-in-Value-clause-meets
+returns-in_err-eval-in-Value-clause-meets c =
+    rw (ap view_head c.in-Value.is) (exit _ _ _ _ _ _ _ c.from_residual.ensures.1 c.in_err-eval-in-Value.ensures.meets)
+
+pub returns-in_ok-eval-in-Value-clause-meets : goal.returns-in_ok-eval-in-Value-clause-meets
+returns-in_ok-eval-in-Value-clause-meets c =
+    rw (ap view_head c.in-Value.is, onward _ _ c.in_ok-eval-in-Value.field-0 _ _ c.in_ok-eval-in-Value.ensures.meets) refl
+
+pub returns-in_err-value-in-Assign-clause-meets : goal.returns-in_err-value-in-Assign-clause-meets
+returns-in_err-value-in-Assign-clause-meets c =
+    rw (ap view_head c.in-Assign.is) (exit _ _ _ _ _ _ _ c.from_residual-in_err-value-in-Assign.ensures.1 c.in_err-value-in-Assign.ensures.meets)
+
+pub returns-in_err-bind_targets-in-Assign-clause-meets : goal.returns-in_err-bind_targets-in-Assign-clause-meets
+returns-in_err-bind_targets-in-Assign-clause-meets c =
+    rw (ap view_head c.in-Assign.is, onward _ _ c.in_ok-value-in-Assign.value _ _ c.in_ok-value-in-Assign.ensures.meets, ← c.items.ensures)
+    (exit _ _ _ _ _ _ _ c.from_residual-in_err-bind_targets-in-Assign.ensures.1 (c.in_err-bind_targets-in-Assign.ensures.meets _))
+
+pub returns-in_ok-bind_targets-in-Assign-clause-meets : goal.returns-in_ok-bind_targets-in-Assign-clause-meets
+returns-in_ok-bind_targets-in-Assign-clause-meets c =
+    rw (ap view_head c.in-Assign.is, onward _ _ c.in_ok-value-in-Assign.value _ _ c.in_ok-value-in-Assign.ensures.meets, ← c.items.ensures, onward _ _ c.bind_targets.new.env _ _ (c.in_ok-bind_targets-in-Assign.ensures.meets _)) refl

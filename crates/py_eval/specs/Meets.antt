@@ -1,0 +1,19 @@
+-- What the evaluator answers, against a run under a budget. Nothing that it runs prints, so no lines are printed.
+use Rattle.std.specs.Prelude.{◌≡◌, ℕ, [], Result, Ok, Err}
+use Rattle.notebook_meaning.specs.Spending.{Spending, Got, Failed, Spent}
+use Rattle.py_eval.specs.declared.meter.Stop.{Stop}
+use Rattle.py_eval.specs.declared.meter.Stop.TheVariants as stop
+
+-- a run that stopped with so much left, unless memory ran out
+abbrev pub Stops : {A : Type 0} → Stop → ℕ → Spending A → Type 0
+Stops stop.Memory left s = Unit {0}
+Stops (stop.Fault kind line) left s = s ≡ Failed kind line left []
+Stops (stop.Spent line) left s = s ≡ Spent line left []
+
+-- what a function returned, seen by view, and what it left are that run, unless memory ran out
+abbrev pub Meets : {X A : Type 0} → (X → A) → Result X Stop → ℕ → Spending A → Type 0
+Meets view (Ok x) left s = s ≡ Got (view x) left []
+Meets view (Err e) left s = Stops e left s
+
+abbrev pub unit : {X : Type 0} → X → Unit {0}
+unit x = tt

@@ -1,0 +1,13 @@
+//! The evaluator: runs of blocks under a budget of steps.
+#![tactic(auto)]
+
+mod eval;
+mod lines;
+mod meter;
+mod run;
+mod scene;
+mod steps;
+
+pub use run::{End, Ran, run_block};
+pub use scene::{Env, Present, Scene};
+pub use steps::Steps;

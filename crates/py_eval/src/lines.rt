@@ -1,0 +1,90 @@
+// The lines of a block.
+ghost use Rattle.std.specs.Prelude.{◌≡◌, ℕ, ◌≤◌, [], IsTrue, not};
+ghost use Rattle.notebook_meaning.specs.Meaning.{bind, head_of, block_of};
+ghost use Rattle.notebook_meaning.specs.Spending.{spend};
+ghost use Rattle.py_eval.specs.Meets.{Meets};
+ghost use Rattle.py_eval.specs.Shows.{scene_of};
+ghost use Rattle.py_tree.specs.Levels.{is_levelled_head, are_levelled};
+ghost use Rattle.py_tree.specs.Names.{is_among};
+ghost use Rattle.py_tree.specs.Scope.{head_binds, bound};
+ghost use Rattle.py_tree.specs.View.{view_head, view_stmts};
+ghost use Rattle.py_value.specs.Maps.{where_name};
+
+use crate::eval::eval;
+use crate::meter::{Stop, charge};
+use crate::scene::{Env, Scene};
+use notebook_meaning::Binding;
+use py_tree::{Line, Spelling, Stmt};
+use py_value::{ErrorKind, Text, Value};
+use std::alloc::Global;
+
+// Binds the target of an assignment. A number can't be taken apart for several.
+fn bind_targets(
+    alloc: Global,
+    targets: &[Spelling],
+    value: Value,
+    line: u32,
+    env: &mut Env,
+) -> Result<(), Stop>
+    ensures meets { (left : ℕ) → Meets (λ _. env.new) result left (spend (bind line targets.now value env.old) left []) }
+    ensures kept { where_name (λ x. not (is_among x targets.now)) env.new ≡ where_name (λ x. not (is_among x targets.now)) env.old }
+{
+    let [target] = targets else {
+        return Err(Stop::Fault {
+            kind: ErrorKind::TypeError,
+            line,
+        });
+    };
+    let name = Text::of(String::from_str(alloc, target.items())?);
+    env.put(name, Binding::Plain(value))?;
+    Ok(())
+}
+
+// Runs a line after its own charge, and gives its value where it is an expression.
+fn run_line(
+    alloc: Global,
+    line: &Line,
+    number: u32,
+    scene: &Scene,
+    env: &mut Env,
+    left: &mut u64,
+) -> Result<Option<Value>, Stop>
+    requires { IsTrue (is_levelled_head (view_head line.now)) }
+    ensures meets { Meets (λ last. record { last = last; env = env.new }) result left.new
+        (spend (head_of (scene_of scene.now) env.old number (view_head line.now)) left.old []) }
+    ensures kept { where_name (λ x. not (is_among x (head_binds (view_head line.now)))) env.new
+        ≡ where_name (λ x. not (is_among x (head_binds (view_head line.now)))) env.old }
+    ensures used { left.new ≤ left.old }
+{
+    match line {
+        Line::Value(tree) => Ok(Some(eval(tree, scene, env, number, left)?)),
+        Line::Assign(targets, tree) => {
+            let value = eval(tree, scene, env, number, left)?;
+            bind_targets(alloc, targets.items(), value, number, env)?;
+            Ok(None)
+        }
+    }
+}
+
+/// Runs lines in order, and gives the value of the last one where it is an expression.
+pub fn run_lines(
+    alloc: Global,
+    stmts: &[Stmt],
+    scene: &Scene,
+    env: &mut Env,
+    left: &mut u64,
+) -> Result<Option<Value>, Stop>
+    requires { IsTrue (are_levelled (view_stmts stmts.now)) }
+    ensures meets { Meets (λ last. record { last = last; env = env.new }) result left.new
+        (spend (block_of (scene_of scene.now) env.old (view_stmts stmts.now)) left.old []) }
+    ensures kept { where_name (λ x. not (is_among x (bound (view_stmts stmts.now)))) env.new
+        ≡ where_name (λ x. not (is_among x (bound (view_stmts stmts.now)))) env.old }
+    ensures used { left.new ≤ left.old }
+{
+    let mut last = None;
+    for stmt in stmts {
+        charge(left, 1, stmt.number)?;
+        last = run_line(alloc, &stmt.line, stmt.number, scene, env, left)?;
+    }
+    Ok(last)
+}
