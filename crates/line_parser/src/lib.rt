@@ -2,6 +2,9 @@
 #![tactic(auto)]
 
 mod line;
+mod names;
+mod numbers;
 mod thin_file;
+mod words;
 
 pub use thin_file::{ThinFault, thin};
