@@ -1,5 +1,5 @@
 -- What `parse` reads is what `is_number` tells.
-use Rattle.std.proofs.Common.{◌≡◌, ℕ, ◌+◌, ◌-◌, ◌*◌, ◌^◌, ◌<◌, ◌≤◌, Bool, true, false, not, ◌&&◌, eqb, ltb, List, [], ◌∷◌, length, get_or, Result, ℤ, refl, arith, rules}
+use Rattle.std.proofs.Common.{◌≡◌, ℕ, ◌+◌, ◌-◌, ◌*◌, ◌^◌, ◌<◌, true, ◌&&◌, ltb, List, length, Result, ℤ, rules}
 use Rattle.std.proofs.lemmas.Bool.Decides.{same_from_decides, Decides-like, Decides-ltb}
 use Rattle.std.proofs.lemmas.Result.{OkIff-decides}
 use Rattle.std.proofs.lemmas.Str.Parse.{IsNumeralModel, numerals_by_fold, parse_signed_digits}
@@ -8,7 +8,7 @@ use Rattle.std.specs.Result.{is_ok}
 use Rattle.std.specs.Str.Parse.{ParsesSigned}
 use mir.Syntax.{w128}
 use Rattle.py_tree.specs.Names.{is_digit}
-use Rattle.py_tree.specs.Numbers.{is_number, number_of}
+use Rattle.py_tree.specs.Numbers.{number_of}
 
 -- the number that digits spell behind those that spell n
 abbrev read_on : ℕ → List ℕ → ℕ

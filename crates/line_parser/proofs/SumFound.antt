@@ -1,14 +1,12 @@
 -- What is read from words is a line of the form, and spells them.
-use Rattle.std.proofs.Common.{◌≡◌, ℕ, ◌+◌, ◌<◌, ◌≤◌, Bool, true, false, not, ◌&&◌, cond, eqb, ltb, leb, List, [], ◌∷◌, ◌++◌, length, map, Option, None, Some, refl, sym, ap, ◌∙◌, subst, append_assoc, append-nil, arith}
+use Rattle.std.proofs.Common.{◌≡◌, ℕ, ◌≤◌, Bool, true, false, cond, List, [], ◌∷◌, ◌++◌, Option, None, Some, refl, sym, ap, ◌∙◌, subst, append-nil, arith}
 use Rattle.std.specs.Prelude.{codes, option_map}
 use Rattle.std.specs.List.{join_with_byte}
-use Rattle.std.specs.Str.{bytes_eq}
-use Rattle.std.proofs.lemmas.Bool.{and_parts, and_from, le-leb, leb-true, ltb-true}
+use Rattle.std.proofs.lemmas.Bool.{and_parts, and_from, le-leb, ltb-true}
 use Rattle.std.proofs.lemmas.List.Splits.{join_with_byte-slice_split}
 use Rattle.std.proofs.lemmas.Option.{same_Some, some_pair_parts}
 use Rattle.std.proofs.lemmas.Slice.Eq.{bytes_eq-Decides}
 use Rattle.notebook_meaning.specs.Thin.{is_name, is_term, is_chain, is_sum, is_line, terms}
-use Rattle.py_tree.specs.Names.{Name}
 use Rattle.py_tree.specs.Numbers.{is_number}
 use Rattle.py_tree.specs.Tokens.{spaced, head_tokens}
 use Rattle.py_tree.specs.Trees.{Tree, literal, name, sum, Head, value, assign}
@@ -62,7 +60,7 @@ more_found t (mark ∷ word ∷ rest) u c n e =
     let below = ltb-true _ _ tests.1 in
     let whole = more_found (sum t read.0) rest u (and_from _ _ c term.is) (omega arith) read.2 in
     let same : spellings (sum t read.0) ++ rest ≡ spellings t ++ (mark ∷ word ∷ rest) =
-        spellings-more t read.0 rest term.is ∙ ap (λ p. spellings t ++ p) (cc) in
+    spellings-more t read.0 rest term.is ∙ ap (λ p. spellings t ++ p) (cc) in
     subst (λ ws. SumOf ws u) same whole
 
 sum_found : (ws : List (List ℕ)) (t : Tree) → read_sum ws ≡ Some t → SumOf ws t

@@ -1,23 +1,22 @@
 -- Each line of the form is what is read from its words.
-use Rattle.std.proofs.Common.{◌≡◌, ℕ, ◌+◌, ◌<◌, ◌≤◌, Bool, true, false, not, ◌&&◌, cond, eqb, ltb, leb, List, [], ◌∷◌, ◌++◌, length, map, Option, None, Some, refl, sym, ap, ◌∙◌, subst, append_assoc, append-nil, arith}
-use Rattle.std.specs.Prelude.{codes, option_map}
-use Rattle.std.specs.List.{join_with_byte}
-use Rattle.std.specs.Str.{bytes_eq, IsUtf8}
+use Rattle.std.proofs.Common.{◌≡◌, ℕ, ◌<◌, ◌≤◌, true, false, List, [], ◌∷◌, ◌++◌, length, Option, None, Some, refl, sym, ap, ◌∙◌, subst, append-nil, arith}
+use Rattle.std.specs.Prelude.{codes}
+use Rattle.std.specs.Str.{IsUtf8}
 use Rattle.std.proofs.lemmas.Bool.{and_parts, and_from, leb-true, lt-ltb}
 use Rattle.std.proofs.lemmas.Bool.Decides.{nat_tests}
 use Rattle.std.proofs.lemmas.Str.{IsUtf8-from_ascii}
-use Rattle.notebook_meaning.specs.Thin.{is_name, is_plain_name, is_term, is_chain, is_sum, is_target, is_line, terms}
+use Rattle.notebook_meaning.specs.Thin.{is_name, is_term, is_chain, is_sum, is_line, terms}
 use Rattle.py_tree.specs.Levels.{is_literal}
-use Rattle.py_tree.specs.Names.{Name, is_digit, is_lower}
+use Rattle.py_tree.specs.Names.{is_digit, is_lower}
 use Rattle.py_tree.specs.Numbers.{is_number}
 use Rattle.py_tree.specs.Tokens.{spaced, head_tokens}
 use Rattle.py_tree.specs.Trees.{Tree, literal, name, sum, Head, value, assign}
 use Rattle.py_tree.specs.declared.token.TokenKind.{TokenKind}
 use Rattle.py_tree.specs.declared.token.TokenKind.TheVariants as kind
 use Rattle.line_parser.specs.Words.{words}
-use Rattle.line_parser.specs.Sums.{◌>>=◌, read_term, read_more, read_sum, target, read_assignment, choose, read_line}
+use Rattle.line_parser.specs.Sums.{read_term, read_more, read_sum, target, read_line}
 use Rattle.line_parser.proofs.Cuts.{AreWords, words-join, join_ascii}
-use Rattle.line_parser.proofs.Spellings.{spellings, head_spellings, word_of, spellings-sum, spellings-more, spellings-term, term_is_chain, name_is_word, tree_words, some_words}
+use Rattle.line_parser.proofs.Spellings.{spellings, head_spellings, word_of, spellings-sum, spellings-more, name_is_word, tree_words, some_words}
 
 digit_not_lower : (b : ℕ) → is_digit b ≡ true → is_lower b ≡ false
 digit_not_lower b h = grind (arith, nat_tests)

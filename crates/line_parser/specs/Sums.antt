@@ -1,5 +1,5 @@
 -- What the words of a line spell, by reading from the left.
-use Rattle.std.specs.Prelude.{ℕ, Bool, cond, ◌&&◌, nat_lt, List, [], ◌∷◌, Option, None, Some, option_map, codes}
+use Rattle.std.specs.Prelude.{ℕ, cond, ◌&&◌, nat_lt, List, [], ◌∷◌, Option, None, Some, option_map, codes}
 use Rattle.std.specs.Str.{bytes_eq}
 use Rattle.notebook_meaning.specs.Thin.{is_name, terms}
 use Rattle.py_tree.specs.Names.{Name}

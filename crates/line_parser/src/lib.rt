@@ -4,6 +4,7 @@
 mod line;
 mod names;
 mod numbers;
+mod sums;
 mod thin_file;
 mod words;
 

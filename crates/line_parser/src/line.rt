@@ -1,89 +1,19 @@
 // Body lines.
 ghost use Rattle.std.specs.Prelude.{◌≡◌, IfOk, IfSome, IsTrue, Some, option_map};
-ghost use Rattle.line_parser.specs.Words.{words, words_left};
+ghost use Rattle.line_parser.specs.Words.{words};
 ghost use Rattle.line_parser.specs.Sums as reading;
 ghost use Rattle.notebook_meaning.specs.Thin.{is_line};
 ghost use Rattle.py_tree.specs.Tokens.{spaced, head_tokens};
 ghost use Rattle.py_tree.specs.Trees.{Head};
-ghost use Rattle.py_tree.specs.Trees as pure;
-ghost use Rattle.py_tree.specs.View.{view, view_head};
+ghost use Rattle.py_tree.specs.View.{view_head};
 
 use crate::names::is_name;
-use crate::numbers::is_number;
+use crate::sums::{spelling, sum};
 use crate::words::next_word;
-use py_tree::{Expr, Line, Spelling, Spellings, Token, TokenKind};
+use py_tree::{Line, Spellings};
 use py_value::Memory;
-use sqlite_items::Boxed;
 use std::alloc::Global;
 use std::str;
-
-const MAX_TERMS: u32 = 32;
-
-fn spelling(alloc: Global, word: &str) -> Result<Spelling, Memory>
-    ensures { IfOk result (λ s. s ≡ word.now) }
-{
-    Ok(Spelling::of(String::from_str(alloc, word)?))
-}
-
-// The name or the number that the word is.
-fn term(alloc: Global, word: &str) -> Result<Option<Expr>, Memory>
-    ensures { IfOk result (λ o. option_map view o ≡ reading.read_term word.now) }
-{
-    if is_name(word) {
-        return Ok(Some(Expr::Name(spelling(alloc, word)?)));
-    }
-    if is_number(word) {
-        return Ok(Some(Expr::Literal(Token {
-            kind: TokenKind::Number,
-            spelling: spelling(alloc, word)?,
-        })));
-    }
-    Ok(None)
-}
-
-// The word after `+ `, and the text after it.
-fn next_term(text: &str) -> Option<(&str, Option<&str>)>
-    ensures { option_map (λ p. (p.0.now, words_left (option_map (λ t. t.now) p.1))) result ≡ reading.next_term (words text.now) }
-{
-    match next_word(text) {
-        ("+", Some(rest)) => Some(next_word(rest)),
-        _ => None,
-    }
-}
-
-// The sum of the two.
-fn added(alloc: Global, left: Expr, right: Expr) -> Result<Expr, Memory>
-    ensures { IfOk result (λ e. view e ≡ pure.sum (view left) (view right)) }
-{
-    Ok(Expr::Sum(Boxed::new(alloc, left)?, Boxed::new(alloc, right)?))
-}
-
-// The terms that the text joins by `+`, at most `MAX_TERMS`.
-fn sum(alloc: Global, text: &str) -> Result<Option<Expr>, Memory>
-    ensures { IfOk result (λ o. option_map view o ≡ reading.read_sum (words text.now)) }
-{
-    let (first, mut rest) = next_word(text);
-    let Some(mut tree) = term(alloc, first)? else {
-        return Ok(None);
-    };
-    for _terms in 1..MAX_TERMS {
-        let Some(text) = rest else {
-            return Ok(Some(tree));
-        };
-        let Some((word, after)) = next_term(text) else {
-            return Ok(None);
-        };
-        let Some(right) = term(alloc, word)? else {
-            return Ok(None);
-        };
-        tree = added(alloc, tree, right)?;
-        rest = after;
-    }
-    match rest {
-        None => Ok(Some(tree)),
-        Some(_) => Ok(None),
-    }
-}
 
 // The word before ` = `, and the text after it.
 fn target(text: &str) -> Option<(&str, &str)>
@@ -133,22 +63,60 @@ pub fn body_line(alloc: Global, text: &[u8]) -> Result<Option<Line>, Memory>
 #[cfg(test)]
 mod tests {
     use super::*;
-
-    const LARGEST: &str = "170141183460469231731687303715884105727";
-
-    fn is_line(alloc: Global, text: &str) -> Result<bool, Memory> {
-        Ok(body_line(alloc, text.as_bytes())?.is_some())
-    }
+    use py_tree::Expr;
+    use std::test::Fail;
 
     #[test]
-    fn reads_an_assignment(rt: HostRuntime) {
-        let line = body_line(rt.alloc(), b"a = b + 3").unwrap();
-        let Some(Line::Assign(targets, Expr::Sum(left, right))) = line else {
-            panic!(rt; "no assignment of a sum");
+    fn reads_an_assignment(rt: HostRuntime) -> Result<(), Fail> {
+        let line = body_line(rt.alloc(), b"a = b + 3")?;
+        let Some(Line::Assign(targets, value)) = line else {
+            panic!(rt; "no assignment");
+        };
+        let Expr::Sum(left, right) = value else {
+            panic!(rt; "no sum");
         };
         assert_eq!(rt; targets.items().len(), 1);
         assert_eq!(rt; targets.items()[0].items(), "a");
         assert!(rt; matches!(left.get(), Expr::Name(name) if name.items() == "b"));
         assert!(rt; matches!(right.get(), Expr::Literal(token) if token.spelling.items() == "3"));
+        Ok(())
+    }
+
+    #[test]
+    fn tells_lines_of_the_form(rt: HostRuntime) -> Result<(), Fail> {
+        for (text, want) in [
+            ("x", true),
+            ("x_1 = 0", true),
+            ("170141183460469231731687303715884105727", true),
+            ("170141183460469231731687303715884105728", false),
+            ("07", false),
+            ("if", false),
+            ("print = 1", false),
+            ("a  + b", false),
+            ("a +b", false),
+            ("a = ", false),
+            ("a =", false),
+            ("a = b = c", false),
+            ("", false),
+        ] {
+            assert_eq!(rt;
+                body_line(rt.alloc(), text.as_bytes())?.is_some(),
+                want,
+                "at {text:?}"
+            );
+        }
+        Ok(())
+    }
+
+    #[test]
+    fn takes_32_terms(rt: HostRuntime) -> Result<(), Fail> {
+        let mut text = String::from_str(rt.alloc(), "a")?;
+        for _ in 1..32 {
+            text.push_str(" + a")?;
+        }
+        assert!(rt; body_line(rt.alloc(), text.as_bytes())?.is_some());
+        text.push_str(" + a")?;
+        assert!(rt; body_line(rt.alloc(), text.as_bytes())?.is_none());
+        Ok(())
     }
 }

@@ -1,11 +1,11 @@
 // Names of a line.
-ghost use Rattle.std.specs.Prelude.{◌≡◌, map};
+ghost use Rattle.std.specs.Prelude.{◌≡◌};
 ghost use Rattle.std.specs.List.{list_all};
-ghost use Rattle.py_tree.specs.Names.{is_among, is_lower};
+ghost use Rattle.py_tree.specs.Names.{is_among};
 ghost use Rattle.notebook_meaning.specs.Thin as thin;
 ghost use Rattle.line_parser.specs.Plain.{is_name_byte};
 
-// Keywords, the names of the notebook's own module, and builtins.
+// The keywords, the names by which a file speaks of its notebook, and the builtins.
 const RESERVED: [&str; 57] = [
     "False",
     "None",
@@ -87,20 +87,15 @@ fn is_plain_name(word: &str) -> bool
     }
 }
 
-fn is_one_of(words: &[&str], name: &str) -> bool
-    ensures { result ≡ is_among name.now (map (λ w. w.now) words.now) }
+fn is_reserved(word: &str) -> bool
+    ensures { result ≡ is_among word.now thin.reserved }
 {
-    for word in words {
-        if *word == name {
-            return true;
-        }
-    }
-    false
+    RESERVED.contains(&word)
 }
 
-// Whether the word is spelled as a name, and is none that a cell may not use.
+// Whether the word is spelled as a name, and is none of the reserved words.
 pub fn is_name(word: &str) -> bool
     ensures { result ≡ thin.is_name word.now }
 {
-    is_plain_name(word) && !is_one_of(&RESERVED, word)
+    is_plain_name(word) && !is_reserved(word)
 }

@@ -1,12 +1,12 @@
 -- Each turn reads one term more, and each return is what reading comes to there.
-use Rattle.std.proofs.Common.{◌≡◌, ◌+◌, ◌<◌, ◌≤◌, Bor, List, ℕ, sym, ap, ◌∙◌, arith}
+use Rattle.std.proofs.Common.{◌+◌, Bor, List, ℕ, sym, ap, ◌∙◌, arith}
 use Rattle.std.specs.Prelude.{option_map}
 use Rattle.line_parser.specs.Sums.{read_more}
 use Rattle.line_parser.specs.Words.{words, words_left}
 use Rattle.notebook_meaning.specs.Thin.{terms}
 use Rattle.py_tree.specs.View.{view}
 use Rattle.line_parser.proofs.SumSteps.{some_word, one_term, no_plus, plus_no_term, plus_term, too_many}
-use Rattle.line_parser.proofs.line.sum.Goals as goal
+use Rattle.line_parser.proofs.sums.sum.Goals as goal
 
 pub loop-terms-init : goal.loop-terms-init
 loop-terms-init c =
@@ -37,7 +37,8 @@ loop-terms-preserved c =
     let tree = sym c.in_ok-tree-2.ensures in
     record {
       count = ap (λ n. n + 1) c.loop-terms.invariant.count ∙ ap terms tree;
-      same = same ∙ (step ∙ ap (λ t. read_more t after) tree) }
+      same = same ∙ (step ∙ ap (λ t. read_more t after) tree);
+    }
 
 pub returns-in-Some-rest-2 : goal.returns-in-Some-rest-2
 returns-in-Some-rest-2 c =

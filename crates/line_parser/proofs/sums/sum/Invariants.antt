@@ -5,9 +5,10 @@ use Rattle.line_parser.specs.Sums.{read_sum, read_more}
 use Rattle.line_parser.specs.Words.{words, words_left}
 use Rattle.notebook_meaning.specs.Thin.{terms}
 use Rattle.py_tree.specs.View.{view}
-use Rattle.line_parser.proofs.line.sum.Given as goal
+use Rattle.line_parser.proofs.sums.sum.Given as goal
 
 abbrev pub invariant-loop-terms : goal.invariant-loop-terms
 invariant-loop-terms l = record {
   count : l._terms ≡ terms (view l.tree);
-  same : read_sum (words l.fn.text) ≡ read_more (view l.tree) (words_left (option_map (λ (t : Bor (List ℕ)). t.now) l.rest)) }
+  same : read_sum (words l.fn.text) ≡ read_more (view l.tree) (words_left (option_map (λ (t : Bor (List ℕ)). t.now) l.rest));
+}
