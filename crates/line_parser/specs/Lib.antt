@@ -1,1 +1,4 @@
+pub mod Plain
 pub mod Refused
+pub mod Sums
+pub mod Words

@@ -2,6 +2,10 @@
 #![tactic(auto)]
 
 mod line;
+mod names;
+mod numbers;
+mod sums;
 mod thin_file;
+mod words;
 
 pub use thin_file::{ThinFault, thin};
