@@ -1,5 +1,5 @@
 // Files in memory.
-ghost use Rattle.std.specs.Prelude.{◌≡◌, ◌≤◌, length, option_map};
+ghost use Rattle.std.specs.Prelude.{◌≡◌, ◌≤◌, Some, length, option_map};
 ghost use Rattle.link_io.specs.Held.{held};
 ghost use Rattle.link_io.specs.Outside.{ReadsAt};
 
@@ -51,7 +51,7 @@ fn copy_from(bytes: &[u8], from: u64, buf: &mut [u8]) -> usize
 }
 
 impl Files for MemFiles {
-    ghost holds = { λ f name. held f.files.items name };
+    ghost holds = { λ f name. Some (held f.files.items name) };
 
     ghost faults = { λ f. f.faults };
 

@@ -1,5 +1,5 @@
 // Whole files.
-ghost use Rattle.std.specs.Prelude.{◌≡◌, ℕ, ◌+◌, ◌<◌, ◌≤◌, ◌^◌, ◌++◌, List, length, take, IfOk, IfSome};
+ghost use Rattle.std.specs.Prelude.{◌≡◌, ℕ, ◌+◌, ◌<◌, ◌≤◌, ◌^◌, ◌++◌, List, length, take, IfOk, IfSome, Some};
 ghost use Rattle.link_io.specs.Outside.{Rose, HasNext};
 
 use crate::files::Files;
@@ -26,7 +26,7 @@ fn read_piece<F: Files>(
 ) -> Result<usize, ReadFault>
     requires { 0 < length buffer.old }
     ensures read { IfSome (F.holds files.old name.now)
-        (λ all. IfOk result (λ count. HasNext all bytes.old.items bytes.new.items count)) }
+        (λ told. IfOk result (λ count. (all : List ℕ) × (told ≡ Some all) × HasNext all bytes.old.items bytes.new.items count)) }
     ensures grown { IfOk result (λ count. length bytes.new.items ≡ length bytes.old.items + count) }
     ensures within { IfOk result (λ count. count ≤ length buffer.old) }
     ensures same { (other : List ℕ) → F.holds files.new other ≡ F.holds files.old other }
@@ -50,7 +50,8 @@ pub fn read_file<F: Files>(
     limit: u64,
 ) -> Result<Vec<u8>, ReadFault>
     requires { limit + 1 < 2 ^ 63 }
-    ensures read { IfSome (F.holds files.old name.now) (λ all. IfOk result (λ bytes. bytes.items ≡ take (limit + 1) all)) }
+    ensures read { IfSome (F.holds files.old name.now)
+        (λ told. IfOk result (λ bytes. (all : List ℕ) × (told ≡ Some all) × (bytes.items ≡ take (limit + 1) all))) }
     ensures short { IfOk result (λ bytes. length bytes.items ≤ limit + 1) }
     ensures same { (other : List ℕ) → F.holds files.new other ≡ F.holds files.old other }
     ensures later { F.faults files.old ≤ F.faults files.new }

@@ -1,0 +1,8 @@
+pub mod Bounds
+pub mod Cells
+pub mod Flags
+pub mod NamesOf
+pub mod Outcomes
+pub mod Steps
+pub mod ThinCode
+pub mod Without

@@ -1,0 +1,23 @@
+-- Clauses on results.
+use Rattle.std.proofs.Common.{◌≡◌, ◌∙◌}
+use Rattle.std.specs.Prelude.{Result, Ok, Err, IfOk, OnOk}
+
+-- a value that is equal to another
+pub if_ok_along : {T E : Type 0} (r : Result T E) (a b : T) → a ≡ b → IfOk r (λ x. x ≡ a) → IfOk r (λ x. x ≡ b)
+if_ok_along (Ok x) a b e h = h ∙ e
+if_ok_along (Err x) a b e h = tt
+
+-- a fact that holds whatever the result
+pub on_ok_always : {T E : Type 0} (r : Result T E) (P : Type 0) → P → OnOk r P
+on_ok_always (Ok x) P h = h
+on_ok_always (Err x) P h = tt
+
+-- a fact from another
+pub on_ok_then : {T E : Type 0} (r : Result T E) (P Q : Type 0) → (P → Q) → OnOk r P → OnOk r Q
+on_ok_then (Ok x) P Q f h = f h
+on_ok_then (Err x) P Q f h = tt
+
+-- a value that is equal to one for each of some things
+pub if_ok_each : {T E A : Type 0} (r : Result T E) (Q : A → Type 0) (a : T) (b : A → T) → ((x : A) → Q x → a ≡ b x) → IfOk r (λ t. t ≡ a) → IfOk r (λ t. (x : A) → Q x → t ≡ b x)
+if_ok_each (Ok t) Q a b f h = λ x q. h ∙ f x q
+if_ok_each (Err e) Q a b f h = tt
