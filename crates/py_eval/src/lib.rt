@@ -11,3 +11,6 @@ mod steps;
 pub use run::{End, Ran, run_block};
 pub use scene::{Env, Present, Scene};
 pub use steps::Steps;
+
+#[cfg(test)]
+mod tests;
