@@ -3,6 +3,8 @@ pub mod Cells
 pub mod Flags
 pub mod NamesOf
 pub mod Outcomes
+pub mod Refusing
 pub mod Steps
 pub mod ThinCode
 pub mod Without
+pub mod Written

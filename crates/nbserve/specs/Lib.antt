@@ -1,3 +1,4 @@
 pub mod Asked
 pub mod Opened
+pub mod Unopened
 pub mod Wrote

@@ -1,0 +1,15 @@
+-- The bytes have the form of one notebook alone.
+use Rattle.std.proofs.Common.{◌≡◌, ◌<◌, ◌^◌, length, arith, sym, subst, inr, List, ℕ}
+use Rattle.std.proofs.lemmas.List.{length-map}
+use Rattle.py_tree.specs.View.{view_cell, view_cells}
+use Rattle.nbserve.proofs.ThinCode.{thin_few}
+use Rattle.nbserve.proofs.Refusing.{refused_by_graph}
+use Rattle.nbserve.proofs.unopened.opening_text.Goals as goal
+
+pub notebook-requires : goal.notebook-requires
+notebook-requires g c =
+    let cells = c.in_ok-cells.cells.items in
+    omega (arith, thin_few (view_cells cells) c.in_ok-cells.ensures.cells.thin, length-map cells view_cell)
+
+pub returns-in_err-notebook-clause-refused : goal.returns-in_err-notebook-clause-refused
+returns-in_err-notebook-clause-refused g c = ?
