@@ -1,1 +1,2 @@
+pub mod FileReading
 pub mod Refused

@@ -1,0 +1,3 @@
+pub mod Breaks
+pub mod Texts
+pub mod Views
