@@ -16,11 +16,9 @@ cut_once [] (c ∷ b) x y p q e = absurd (unbroken_head c b q cc)
 cut_once (c ∷ a) [] x y p q e = absurd (unbroken_head c a p cc)
 cut_once (c ∷ a) (d ∷ b) x y p q e =
     let tail : a ++ 10 ∷ x ≡ b ++ 10 ∷ y = cc in
-    let h : (a ≡ b) × (x ≡ y) = cut_once a b x y (and_parts _ _ p).1 (and_parts _ _ q).1 tail in
-    let f : c ≡ d = cc in
-    let g : a ≡ b = h.0 in
-    let k : c ∷ a ≡ d ∷ b = cc in
-    (k, h.1)
+    let head : c ≡ d = cc in
+    let h = cut_once a b x y (and_parts _ _ p).1 (and_parts _ _ q).1 tail in
+    (ap (λ (n : ℕ). n ∷ a) head ∙ ap (λ (l : List ℕ). d ∷ l) h.0, h.1)
 
 take_first : (n : ℕ) (x : ℕ) (xs : List ℕ) → take (1 + n) (x ∷ xs) ≡ x ∷ take n xs
 take_first n x xs = grind (arith, common_steps)

@@ -1,3 +1,5 @@
+pub mod Bodies
 pub mod Breaks
+pub mod Places
 pub mod Texts
 pub mod Views
