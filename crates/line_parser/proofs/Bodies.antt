@@ -1,7 +1,7 @@
 -- A body that is read line by line.
-use Rattle.std.proofs.Common.{◌≡◌, ℕ, ◌+◌, ◌<◌, ◌≤◌, Bool, true, false, ◌&&◌, not, eqb, IsTrue, List, [], ◌∷◌, ◌++◌, length, ◌⊎◌, inl, inr, refl, sym, ap, ◌∙◌, subst, append_assoc, add-zero, arith}
+use Rattle.std.proofs.Common.{◌≡◌, ℕ, ◌+◌, ◌<◌, ◌≤◌, IsTrue, List, [], ◌∷◌, ◌++◌, length, ◌⊎◌, inl, inr, refl, sym, ap, ◌∙◌, append_assoc, add-zero, arith}
 use Rattle.std.proofs.lemmas.Bool.{and_parts, and_from, eqb-true, false≢true}
-use Rattle.line_parser.specs.FileReading.{At, BeginsWith, HasBody, IsPast}
+use Rattle.line_parser.specs.FileReading.{At, BeginsWith, HasBody}
 use Rattle.line_parser.proofs.Places.{past_none, past_on, text-append}
 use Rattle.notebook_meaning.specs.Thin.{is_line, is_empty, are_lines, line_count, line_text, body_lines, text_of}
 use Rattle.py_tree.specs.Tokens.{spaced, head_tokens}
@@ -111,8 +111,8 @@ next before place done whole rest found fits room way =
 pub last : (before place : At) (done body : Stmts) (rest : List ℕ) → HasBody before place done → ((head : Head) (after : List ℕ) → IsTrue (is_line head) → 0 < place.room → place.bytes ≡ text_of (line_text head ∷ []) ++ after → ⊥) → IsTrue (are_lines before.line body) → line_count body ≤ before.room → IsOnWay place.bytes done body rest → IsLast place done body rest
 last before place done body rest found none fits room way =
     elim (next before place done body rest found fits room way) as (λ _. IsLast place done body rest) [
-    inl n ↦ absurd (none n.head (text_of (body_lines n.more) ++ rest) n.fits n.room n.left)
-    | inr n ↦ n
+      | inl n ↦ absurd (none n.head (text_of (body_lines n.more) ++ rest) n.fits n.room n.left)
+      | inr n ↦ n
     ]
 
 pub start : (a : At) → HasBody a a end
@@ -134,10 +134,10 @@ indent_first (stmt n h block) rest = (32 ∷ 32 ∷ 32 ∷ (spaced (head_tokens 
 pub goes_on : (a b c : At) (done : Stmts) (s : Stmt) → HasBody a b done → Continues a b done → HasBody b c (then_comes s end) → ((head : Head) (rest : List ℕ) → IsTrue (is_line head) → 0 < b.room → b.bytes ≡ text_of (line_text head ∷ []) ++ rest → (s ≡ stmt b.line head end) × (c.bytes ≡ rest)) → Continues a c (joined done (then_comes s end))
 goes_on a b c done s found way line only body rest f r e u =
     elim (next a b done body rest found f r (way body rest f r e u)) as (λ _. IsOnWay c.bytes (joined done (then_comes s end)) body rest) [
-    inl n ↦ let o = only n.head (text_of (body_lines n.more) ++ rest) n.fits n.room n.left in record {
-      more = n.more;
-      parts = n.parts ∙ (ap (λ (t : Stmt). joined done (then_comes t n.more)) (sym o.0) ∙ sym (joined-push done s n.more));
-      left = o.1;
-    }
-    | inr n ↦ let i = indent_first s c.bytes in absurd (u (i.0, sym n.left ∙ (line.past.bytes ∙ i.1)))
+      | inl n ↦ let o = only n.head (text_of (body_lines n.more) ++ rest) n.fits n.room n.left in record {
+        more = n.more;
+        parts = n.parts ∙ (ap (λ (t : Stmt). joined done (then_comes t n.more)) (sym o.0) ∙ sym (joined-push done s n.more));
+        left = o.1;
+      }
+      | inr n ↦ let i = indent_first s c.bytes in absurd (u (i.0, sym n.left ∙ (line.past.bytes ∙ i.1)))
     ]

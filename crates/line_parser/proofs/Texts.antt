@@ -1,16 +1,15 @@
 -- The text of a body line has no `\n`.
-use Rattle.std.proofs.Common.{◌≡◌, ℕ, ◌+◌, ◌<◌, ◌≤◌, Bool, true, false, not, ◌&&◌, ◌||◌, eqb, leb, List, [], ◌∷◌, ◌++◌, IsTrue, refl, ap, ◌∙◌, arith, rules}
-use Rattle.std.specs.List.{list_all, join_with_byte}
+use Rattle.std.proofs.Common.{◌≡◌, ℕ, Bool, true, false, not, ◌||◌, eqb, List, [], ◌∷◌, ◌++◌, IsTrue, refl, ◌∙◌}
+use Rattle.std.specs.List.{list_all}
 use Rattle.std.specs.Prelude.{codes}
-use Rattle.std.proofs.lemmas.Grind.{common_steps}
 use Rattle.std.proofs.lemmas.Bool.{and_parts, and_from, not_from_false, ne_eqb, both_ways, false≢true}
 use Rattle.std.proofs.lemmas.List.Folds.{list_all-append}
 use Rattle.line_parser.specs.FileReading.{is_unbroken}
-use Rattle.notebook_meaning.specs.Thin.{is_line, is_plain_name, is_name, is_sum, is_chain, is_term, is_target}
+use Rattle.notebook_meaning.specs.Thin.{is_line, is_plain_name, is_chain, is_term, is_target}
 use Rattle.py_tree.specs.Levels.{is_literal}
 use Rattle.py_tree.specs.Names.{Name, is_lower, is_digit}
 use Rattle.py_tree.specs.Numbers.{is_number}
-use Rattle.py_tree.specs.Tokens.{spaced, tokens, names_tokens, name_token, head_tokens, mark}
+use Rattle.py_tree.specs.Tokens.{spaced, tokens, names_tokens, head_tokens, mark}
 use Rattle.py_tree.specs.Trees.{Tree, literal, name, sum, Head, value, assign}
 use Rattle.py_tree.specs.declared.token.Token.{Token}
 use Rattle.py_tree.specs.declared.token.TokenKind.{TokenKind}

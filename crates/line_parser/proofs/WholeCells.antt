@@ -1,5 +1,5 @@
 -- A cell that is read, and cells one after the other.
-use Rattle.std.proofs.Common.{◌≡◌, ℕ, ◌+◌, ◌<◌, ◌≤◌, Bool, true, false, ◌&&◌, not, eqb, IsTrue, List, [], ◌∷◌, ◌++◌, length, ◌⊎◌, inl, inr, refl, sym, ap, ◌∙◌, subst, append_assoc, append-nil, add-zero, zero-add, length-append, arith}
+use Rattle.std.proofs.Common.{◌≡◌, ℕ, ◌+◌, ◌<◌, ◌≤◌, not, IsTrue, List, [], ◌∷◌, ◌++◌, length, ◌⊎◌, inl, inr, refl, sym, ap, ◌∙◌, append_assoc, append-nil, add-zero, zero-add, length-append, arith}
 use Rattle.std.specs.Prelude.{codes, flat_map, sum_by}
 use Rattle.std.proofs.lemmas.Bool.{and_parts, and_from, eqb-true, eq-eqb, false≢true}
 use Rattle.std.proofs.lemmas.List.{append_cancel_left}
@@ -135,8 +135,8 @@ next before place done whole rest found fits room u way =
 pub last : (before place : At) (done cells : List Cell) (rest : List ℕ) → HasCells before place done → ((cell : Cell) (after : List ℕ) → IsTrue (is_cell place.line cell) → line_count cell.body ≤ place.room → place.bytes ≡ text_of (cell_lines cell) ++ after → (BeginsWith 32 after → ⊥) → ⊥) → IsTrue (are_cells before.line cells) → bodies cells ≤ before.room → (BeginsWith 32 rest → ⊥) → IsOnWay place.bytes done cells rest → IsLast place done cells rest
 last before place done cells rest found none fits room u way =
     elim (next before place done cells rest found fits room u way) as (λ _. IsLast place done cells rest) [
-    inl n ↦ absurd (none n.cell (text_of (flat_map cell_lines n.more) ++ rest) n.fits n.room n.left n.apart)
-    | inr n ↦ n
+      | inl n ↦ absurd (none n.cell (text_of (flat_map cell_lines n.more) ++ rest) n.fits n.room n.left n.apart)
+      | inr n ↦ n
     ]
 
 pub start : (a : At) → HasCells a a []
@@ -155,12 +155,12 @@ has_more a b c done cell p q = record {
 pub goes_on : (a b c : At) (done : List Cell) (read : Cell) → HasCells a b done → Continues a b done → HasCell b c read → ((cell : Cell) (rest : List ℕ) → IsTrue (is_cell b.line cell) → line_count cell.body ≤ b.room → b.bytes ≡ text_of (cell_lines cell) ++ rest → (BeginsWith 32 rest → ⊥) → (read ≡ cell) × (c.bytes ≡ rest)) → Continues a c (done ++ read ∷ [])
 goes_on a b c done read found way past only cells rest f r e u v =
     elim (next a b done cells rest found f r u (way cells rest f r e u v)) as (λ _. IsOnWay c.bytes (done ++ read ∷ []) cells rest) [
-    inl n ↦ let o = only n.cell (text_of (flat_map cell_lines n.more) ++ rest) n.fits n.room n.left n.apart in record {
-      more = n.more;
-      parts = n.parts ∙ (ap (λ (t : Cell). done ++ t ∷ n.more) (sym o.0) ∙ sym (append_assoc done (read ∷ []) n.more));
-      left = o.1;
-    }
-    | inr n ↦ absurd (v (_, sym n.left ∙ past.past.bytes))
+      | inl n ↦ let o = only n.cell (text_of (flat_map cell_lines n.more) ++ rest) n.fits n.room n.left n.apart in record {
+        more = n.more;
+        parts = n.parts ∙ (ap (λ (t : Cell). done ++ t ∷ n.more) (sym o.0) ∙ sym (append_assoc done (read ∷ []) n.more));
+        left = o.1;
+      }
+      | inr n ↦ absurd (v (_, sym n.left ∙ past.past.bytes))
     ]
 
 some_count : (s : Stmts) → IsTrue (not (is_empty s)) → 0 < line_count s

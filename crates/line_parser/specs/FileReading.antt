@@ -1,11 +1,11 @@
 -- How far a file of the thin form is read.
-use Rattle.std.specs.Prelude.{◌≡◌, ℕ, ◌+◌, ◌<◌, ◌≤◌, Bool, not, ◌==◌, IsTrue, List, [], ◌∷◌, ◌++◌, length, flat_map, sum_by, Option, None, Some, Result, Ok, MatchOption, MatchResult, IsSomeAnd}
+use Rattle.std.specs.Prelude.{◌≡◌, ℕ, ◌+◌, ◌<◌, ◌≤◌, Bool, not, ◌==◌, IsTrue, List, [], ◌∷◌, ◌++◌, length, flat_map, sum_by, Option, Result, MatchResult, IsSomeAnd}
 use Rattle.std.specs.List.{list_all}
 use Rattle.std.specs.Global.{Vec}
 use Rattle.line_parser.specs.declared.thin_file.ThinFault.{ThinFault}
 use Rattle.line_parser.specs.declared.thin_file.ThinFault.TheVariants.{Memory}
 use Rattle.notebook_meaning.specs.Thin.{is_line, is_empty, are_lines, line_count, is_cell, are_cells, line_text, body_lines, cell_lines, text_of}
-use Rattle.py_tree.specs.Trees.{Head, stmt, Stmts, end, then_comes, Cell}
+use Rattle.py_tree.specs.Trees.{Head, stmt, Stmts, end, Cell}
 use Rattle.py_tree.specs.View.{view_stmt, view_stmts, view_cell, view_cells}
 use Rattle.py_tree.specs.declared.tree.CellCode.{CellCode}
 use Rattle.py_tree.specs.declared.tree.Stmt.{Stmt}

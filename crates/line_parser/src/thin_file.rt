@@ -13,6 +13,7 @@ use std::alloc::{AllocFailed, Global};
 
 // The greatest number of bytes that a file may have, and of body lines.
 const BYTES: usize = 1_048_576;
+
 const BODY_LINES: u32 = 1000;
 
 /// Why bytes are no file of the thin form.
@@ -67,3 +68,6 @@ pub fn thin(alloc: Global, bytes: &[u8]) -> Result<Vec<CellCode>, ThinFault>
     }
     Ok(cells)
 }
+
+#[cfg(test)]
+mod tests;

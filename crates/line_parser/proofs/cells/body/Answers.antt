@@ -1,12 +1,12 @@
 -- Each line of a body is read in turn.
-use Rattle.std.proofs.Common.{◌≡◌, ℕ, ◌+◌, ◌<◌, ◌≤◌, List, [], ◌∷◌, ◌++◌, length, Some, None, Ok, Err, IsTrue, not, refl, inl, inr, sym, ap, ◌∙◌, arith, vec_len, MatchResult}
+use Rattle.std.proofs.Common.{◌≡◌, ◌<◌, List, [], ◌∷◌, ◌++◌, length, IsTrue, not, refl, inl, inr, sym, ap, ◌∙◌, arith, vec_len}
 use Rattle.std.proofs.lemmas.Bool.{eqb-true, eqb-false, false≢true}
 use Rattle.std.proofs.lemmas.Result.{err_from_is_err_and}
-use Rattle.line_parser.specs.FileReading.{At, BeginsWith, HasBody, ReadsLine}
-use Rattle.line_parser.proofs.Bodies.{Continues, has_more, goes_on, last, next, view-push, joined}
+use Rattle.line_parser.specs.FileReading.{At}
+use Rattle.line_parser.proofs.Bodies.{has_more, goes_on, last, next, view-push, joined}
 use Rattle.line_parser.specs.declared.thin_file.ThinFault.TheVariants.{Memory}
-use Rattle.notebook_meaning.specs.Thin.{is_empty, is_line, are_lines, line_count, line_text, body_lines, text_of}
-use Rattle.py_tree.specs.Trees.{Head, Stmts, stmt, end, then_comes}
+use Rattle.notebook_meaning.specs.Thin.{is_empty, body_lines, text_of}
+use Rattle.py_tree.specs.Trees.{end, then_comes}
 use Rattle.py_tree.specs.View.{view_stmt, view_stmts}
 use Rattle.py_tree.specs.declared.tree.Stmt.{Stmt}
 use Rattle.line_parser.proofs.cells.body.Goals as goal
@@ -25,10 +25,10 @@ returns-in_err-stmt-clause-only c body rest fits some room e u =
     let only = c.in_err-stmt.ensures.only in
     let ends = c.in_err-stmt.ensures.ends in
     let memory : c.in_err-stmt.field-0.0 ≡ Memory =
-      elim (next c.args.reader.now c.loop-stmts.reader (view_stmts c.loop-stmts.stmts.items) body rest inv.found fits room (inv.continues body rest fits room e u)) as (λ _. c.in_err-stmt.field-0.0 ≡ Memory) [
-      inl n ↦ only n.head (text_of (body_lines n.more) ++ rest) n.fits n.room n.left
+    elim (next c.args.reader.now c.loop-stmts.reader (view_stmts c.loop-stmts.stmts.items) body rest inv.found fits room (inv.continues body rest fits room e u)) as (λ _. c.in_err-stmt.field-0.0 ≡ Memory) [
+      | inl n ↦ only n.head (text_of (body_lines n.more) ++ rest) n.fits n.room n.left
       | inr n ↦ let none = ends (rw (← n.left) at u) in cc
-      ] in
+    ] in
     let p = err_from_is_err_and c.from_residual.result c.from_residual.ensures.1 in
     rw (p.1, p.2) memory
 

@@ -1,11 +1,8 @@
 -- The decorator, the `def` line and the body are read in turn.
-use Rattle.std.proofs.Common.{◌≡◌, ℕ, ◌+◌, List, [], ◌∷◌, ◌++◌, Some, None, Ok, Err, IsTrue, refl, sym, ap, ◌∙◌}
+use Rattle.std.proofs.Common.{◌++◌, ◌∙◌}
 use Rattle.std.proofs.lemmas.Result.{err_from_is_err_and}
-use Rattle.line_parser.specs.FileReading.{At, HasBody, HasCell}
 use Rattle.line_parser.proofs.WholeCells.{at_body, behind_decorator, is_read, same_cell}
 use Rattle.notebook_meaning.specs.Thin.{body_lines, text_of}
-use Rattle.py_tree.specs.Trees.{Cell, Stmts}
-use Rattle.py_tree.specs.View.{view_block, view_cell, view_stmts}
 use Rattle.line_parser.proofs.cells.cell.Goals as goal
 
 pub returns-in_err-expect-clause-only : goal.returns-in_err-expect-clause-only

@@ -1,10 +1,10 @@
 -- Each cell is read in turn.
-use Rattle.std.proofs.Common.{◌≡◌, ℕ, ◌+◌, List, [], ◌∷◌, ◌++◌, Some, None, Ok, Err, IsTrue, inl, inr, refl, sym, ap, ◌∙◌}
+use Rattle.std.proofs.Common.{◌≡◌, [], ◌∷◌, ◌++◌, inl, inr, sym, ap, ◌∙◌}
 use Rattle.std.specs.Prelude.{flat_map}
 use Rattle.std.proofs.lemmas.Result.{err_from_is_err_and}
-use Rattle.line_parser.specs.FileReading.{At, BeginsWith}
+use Rattle.line_parser.specs.FileReading.{At}
 use Rattle.line_parser.specs.declared.thin_file.ThinFault.TheVariants.{Memory}
-use Rattle.line_parser.proofs.WholeCells.{Continues, goes_on, has_more, last, less_room, next, view-push}
+use Rattle.line_parser.proofs.WholeCells.{goes_on, has_more, last, less_room, next, view-push}
 use Rattle.notebook_meaning.specs.Thin.{cell_lines, text_of}
 use Rattle.py_tree.specs.View.{view_cell, view_cells}
 use Rattle.line_parser.proofs.cells.cells.Goals as goal
@@ -15,10 +15,10 @@ returns-in_err-next-clause-only c cells rest fits room e u v =
     let only = c.in_err-next.ensures.only in
     let ends = c.in_err-next.ensures.ends in
     let memory : c.in_err-next.field-0.0 ≡ Memory =
-      elim (next c.args.reader.now c.loop-cells.reader (view_cells c.loop-cells.cells.items) cells rest inv.found fits room u (inv.continues cells rest fits room e u v)) as (λ _. c.in_err-next.field-0.0 ≡ Memory) [
-      inl n ↦ only n.cell (text_of (flat_map cell_lines n.more) ++ rest) n.fits n.room n.left n.apart
+    elim (next c.args.reader.now c.loop-cells.reader (view_cells c.loop-cells.cells.items) cells rest inv.found fits room u (inv.continues cells rest fits room e u v)) as (λ _. c.in_err-next.field-0.0 ≡ Memory) [
+      | inl n ↦ only n.cell (text_of (flat_map cell_lines n.more) ++ rest) n.fits n.room n.left n.apart
       | inr n ↦ let none = ends (rw (← n.left) at v) in cc
-      ] in
+    ] in
     let p = err_from_is_err_and c.from_residual.result c.from_residual.ensures.1 in
     rw (p.1, p.2) memory
 

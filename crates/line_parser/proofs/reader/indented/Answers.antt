@@ -1,5 +1,5 @@
 -- The indent, then the bytes up to the first `\n`.
-use Rattle.std.proofs.Common.{◌≡◌, ◌++◌, [], ◌∷◌, ◌+◌, List, ℕ, ◌≢◌, Some, None, MatchOption, drop, take, ap, ◌∙◌, length, length-drop, arith, ◌-◌}
+use Rattle.std.proofs.Common.{◌≡◌, ◌++◌, [], ◌∷◌, ◌+◌, List, ℕ, Some, drop, take, ap, ◌∙◌, length, length-drop, arith, ◌-◌}
 use Rattle.std.proofs.lemmas.Bool.Decides.{Decides-eqb}
 use Rattle.std.proofs.lemmas.List.{take_all}
 use Rattle.std.proofs.lemmas.Slice.Eq.{strip_prefix_is}

@@ -1,13 +1,11 @@
 -- A body line that comes is read.
-use Rattle.std.proofs.Common.{◌≡◌, ◌++◌, [], ◌∷◌, ◌+◌, ◌-◌, ◌<◌, List, ℕ, Some, None, Ok, Err, sym, ◌∙◌, ap, refl, IsTrue, eq-eqb, arith, rules, append_assoc, Option, option_map}
+use Rattle.std.proofs.Common.{◌≡◌, ◌++◌, [], ◌∷◌, ◌+◌, List, ℕ, Some, None, sym, ◌∙◌, ap, refl, IsTrue, eq-eqb, arith, append_assoc, option_map}
 use Rattle.std.proofs.lemmas.Bool.{and_from}
-use Rattle.notebook_meaning.specs.Thin.{is_line, are_lines, line_text, body_lines, text_of}
+use Rattle.notebook_meaning.specs.Thin.{is_line, are_lines, line_text, text_of}
 use Rattle.py_tree.specs.Tokens.{spaced, head_tokens}
 use Rattle.py_tree.specs.Trees.{Head, stmt, Stmts, end, then_comes}
-use Rattle.py_tree.specs.View.{view_head, view_block, view_stmt}
-use Rattle.py_tree.specs.declared.tree.Line.{Line}
-use Rattle.py_tree.specs.declared.tree.Stmt.{roll-Stmt}
-use Rattle.line_parser.specs.FileReading.{At, BeginsWith, HasBody, IsPast, ReadsLine, is_unbroken}
+use Rattle.py_tree.specs.View.{view_head, view_block}
+use Rattle.line_parser.specs.FileReading.{At, BeginsWith, HasBody, is_unbroken}
 use Rattle.line_parser.proofs.Breaks.{cut_once}
 use Rattle.line_parser.proofs.Texts.{unbroken_line}
 use Rattle.line_parser.proofs.Views.{view_line}
