@@ -1,5 +1,5 @@
 // What is left of a file of the thin form.
-ghost use Rattle.std.specs.Prelude.{◌≡◌, ℕ, ◌+◌, ◌≤◌, ◌==◌, IsTrue, MatchBool, List, [], ◌∷◌, ◌++◌, length, position, codes, Ok, None, MatchOption, IfOk, OnErr, OnOk};
+ghost use Rattle.std.specs.Prelude.{◌≡◌, ℕ, ◌+◌, ◌≤◌, ◌==◌, IsTrue, MatchBool, List, [], ◌∷◌, ◌++◌, length, position, codes, Ok, None, MatchOption, IfErr, IfOk, OnErr, OnOk};
 ghost use Rattle.line_parser.specs.FileReading.{BeginsWith, HasBody, IsPast, ReadsLine, is_unbroken};
 ghost use Rattle.notebook_meaning.specs.Thin.{text_of};
 ghost use Rattle.py_tree.specs.Trees.{end, then_comes};
@@ -82,6 +82,7 @@ impl<'a> Reader<'a> {
     // Passes over the line that comes next, which has to be this one.
     pub fn expect(&mut self, line: &[u8]) -> Result<(), ThinFault>
         ensures found { OnOk result (IsPast self.old self.new (line.now ∷ []) 0) }
+        ensures line { IfErr result (λ e. e ≡ ThinFault.Thin self.old.line) }
         ensures refused { OnErr result ((rest : List ℕ) → self.old.bytes ≡ text_of (line.now ∷ []) ++ rest → ⊥) }
     {
         if self.skip(line) {
