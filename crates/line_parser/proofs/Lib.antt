@@ -1,6 +1,13 @@
+pub mod Bodies
+pub mod Breaks
 pub mod Cuts
 pub mod Numerals
+pub mod Places
 pub mod Spellings
 pub mod SumFound
 pub mod SumOnly
 pub mod SumSteps
+pub mod Texts
+pub mod Views
+pub mod WholeCells
+pub mod WholeFiles

@@ -1,3 +1,4 @@
+pub mod FileReading
 pub mod Plain
 pub mod Refused
 pub mod Sums

@@ -1,9 +1,11 @@
 //! Notebook files in the thin form.
 #![tactic(auto)]
 
+mod cells;
 mod line;
 mod names;
 mod numbers;
+mod reader;
 mod sums;
 mod thin_file;
 mod words;

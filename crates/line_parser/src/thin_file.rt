@@ -5,8 +5,16 @@ ghost use Rattle.notebook_meaning.specs.Thin.{IsForm};
 ghost use Rattle.py_tree.specs.Trees.{Cell};
 ghost use Rattle.py_tree.specs.View.{view_cells};
 
+use crate::cells::cells;
+use crate::reader::Reader;
 use py_tree::CellCode;
-use std::alloc::Global;
+use py_value::Memory;
+use std::alloc::{AllocFailed, Global};
+
+// The greatest number of bytes that a file may have, and of body lines.
+const BYTES: usize = 1_048_576;
+
+const BODY_LINES: u32 = 1000;
 
 /// Why bytes are no file of the thin form.
 #[derive(Clone, Copy, Debug, PartialEq, Eq)]
@@ -18,11 +26,48 @@ pub enum ThinFault {
     Memory,
 }
 
+impl From<Memory> for ThinFault {
+    ghost use Rattle.std.specs.Prelude.{◌≡◌};
+    ghost use Rattle.line_parser.specs.declared.thin_file.ThinFault.TheVariants as fault;
+
+    ghost from_gives = { λ _ e. e ≡ fault.Memory };
+
+    fn from(_: Memory) -> Self {
+        ThinFault::Memory
+    }
+}
+
+impl<T: Drop> From<AllocFailed<T>> for ThinFault {
+    ghost use Rattle.std.specs.Prelude.{◌≡◌};
+    ghost use Rattle.line_parser.specs.declared.thin_file.ThinFault.TheVariants as fault;
+
+    ghost from_gives = { λ _ e. e ≡ fault.Memory };
+
+    fn from(_: AllocFailed<T>) -> Self {
+        ThinFault::Memory
+    }
+}
+
 /// The cells of a file of the thin form. It refuses exactly the other bytes.
 pub fn thin(alloc: Global, bytes: &[u8]) -> Result<Vec<CellCode>, ThinFault>
     ensures cells { IfOk result (λ cells. IsForm bytes.now (view_cells cells.items)) }
     ensures only { (nb : List Cell) → IsForm bytes.now nb → IfOk result (λ cells. view_cells cells.items ≡ nb) }
     ensures refused { IfErr result (λ e. IsCauseOf e bytes.now) }
 {
-    Err(ThinFault::Memory)
+    if bytes.len() > BYTES {
+        return Err(ThinFault::Thin { line: 0 });
+    }
+    let mut reader = Reader::new(bytes, BODY_LINES);
+    reader.expect(b"import marimo")?;
+    reader.expect(b"app = marimo.App()")?;
+    let cells = cells(alloc, &mut reader)?;
+    reader.expect(b"if __name__ == \"__main__\":")?;
+    reader.expect(b"    app.run()")?;
+    if !reader.is_at_end() {
+        return Err(reader.fault());
+    }
+    Ok(cells)
 }
+
+#[cfg(test)]
+mod tests;

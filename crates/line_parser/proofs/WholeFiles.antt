@@ -1,0 +1,75 @@
+-- A file of the thin form that is read.
+use Rattle.std.proofs.Common.{◌≡◌, ℕ, ◌≤◌, IsTrue, List, [], ◌∷◌, ◌++◌, length, refl, sym, ◌∙◌, append-nil, arith}
+use Rattle.std.specs.Prelude.{codes, flat_map}
+use Rattle.std.proofs.lemmas.Bool.{and_parts, and_from, leb-true, le-leb}
+use Rattle.std.proofs.lemmas.List.{append_cancel_left}
+use Rattle.line_parser.specs.FileReading.{At, BeginsWith, HasCells, IsPast}
+use Rattle.line_parser.specs.Refused.{IsCauseOf}
+use Rattle.line_parser.specs.declared.thin_file.ThinFault.{ThinFault}
+use Rattle.line_parser.specs.declared.thin_file.ThinFault.TheVariants.{Thin, Memory}
+use Rattle.line_parser.proofs.Places.{past_on, text-append}
+use Rattle.line_parser.proofs.WholeCells.{bodies}
+use Rattle.notebook_meaning.specs.Thin.{IsForm, are_cells, cell_lines, header, footer, file_lines, text_of}
+use Rattle.py_tree.specs.Trees.{Cell}
+
+-- no cells have the bytes, or memory was wanting
+pub cause : (e : ThinFault) (bytes : List ℕ) → ((nb : List Cell) → IsForm bytes nb → e ≡ Memory) → IsCauseOf e bytes
+cause (Thin line) bytes h = λ nb form. let e = h nb form in cc
+cause Memory bytes h = tt
+
+pub form : (a b c d e f : At) (nb : List Cell) → a.line ≡ 1 → a.room ≡ 1000 → length a.bytes ≤ 1048576 → IsPast a b (codes "import marimo" ∷ []) 0 → IsPast b c (codes "app = marimo.App()" ∷ []) 0 → HasCells c d nb → IsPast d e (codes "if __name__ == \"__main__\":" ∷ []) 0 → IsPast e f (codes "    app.run()" ∷ []) 0 → f.bytes ≡ [] → IsForm a.bytes nb
+form a b c d e f nb first room short p q cells r s ends =
+    let line : c.line ≡ 3 = omega (arith, p.line, q.line) in
+    let few : bodies nb ≤ 1000 = omega (arith, p.room, q.room, cells.past.room) in
+    let last = past_on d e f (codes "if __name__ == \"__main__\":" ∷ []) (codes "    app.run()" ∷ []) 0 0 r s in
+    let behind = past_on c d f (flat_map cell_lines nb) footer (bodies nb) 0 cells.past last in
+    let whole = past_on a c f header (flat_map cell_lines nb ++ footer) 0 _ (past_on a b c (codes "import marimo" ∷ []) (codes "app = marimo.App()" ∷ []) 0 0 p q) behind in
+    record {
+      thin = and_from _ _ (rw line at cells.fits) (le-leb _ _ few);
+      text = rw ends at whole.bytes ∙ append-nil (text_of (file_lines nb));
+      short = short;
+    }
+
+pub before_first : (bytes : List ℕ) (nb : List Cell) → IsForm bytes nb → bytes ≡ text_of (codes "import marimo" ∷ []) ++ text_of (codes "app = marimo.App()" ∷ (flat_map cell_lines nb ++ footer))
+before_first bytes nb form = form.text
+
+pub before_second : (a b : At) (nb : List Cell) → IsPast a b (codes "import marimo" ∷ []) 0 → IsForm a.bytes nb → b.bytes ≡ text_of (codes "app = marimo.App()" ∷ []) ++ text_of (flat_map cell_lines nb ++ footer)
+before_second a b nb p form =
+    append_cancel_left (text_of (codes "import marimo" ∷ [])) _ _ (sym p.bytes ∙ form.text)
+
+-- the bytes begin with the cells and end with the last lines
+pub record IsAtCells (place : At) (nb : List Cell) : Type 0 where
+  pub fits : IsTrue (are_cells place.line nb)
+  pub room : bodies nb ≤ place.room
+  pub bytes : place.bytes ≡ text_of (flat_map cell_lines nb) ++ text_of footer
+
+pub at_cells : (a b c : At) (nb : List Cell) → a.line ≡ 1 → a.room ≡ 1000 → IsPast a b (codes "import marimo" ∷ []) 0 → IsPast b c (codes "app = marimo.App()" ∷ []) 0 → IsForm a.bytes nb → IsAtCells c nb
+at_cells a b c nb first room p q form =
+    let line : c.line ≡ 3 = omega (arith, p.line, q.line) in
+    let left : c.room ≡ 1000 = omega (arith, p.room, q.room) in
+    let few : bodies nb ≤ 1000 = leb-true _ _ (and_parts _ _ form.thin).1 in
+    record {
+      fits = rw line (and_parts _ _ form.thin).0;
+      room = rw left few;
+      bytes = append_cancel_left (text_of (codes "app = marimo.App()" ∷ [])) _ _ (sym q.bytes ∙ before_second a b nb p form) ∙ text-append (flat_map cell_lines nb) footer;
+    }
+
+heads_apart : (b : ℕ) (x y : List ℕ) → (105 ≡ b → ⊥) → 105 ∷ x ≡ b ∷ y → ⊥
+heads_apart b x y h e = h cc
+
+-- the footer begins no body line, and no cell
+pub no_line : BeginsWith 32 (text_of footer) → ⊥
+no_line h = heads_apart 32 _ h.0 (λ e. omega arith) h.1
+
+pub no_cell : BeginsWith 64 (text_of footer) → ⊥
+no_cell h = heads_apart 64 _ h.0 (λ e. omega arith) h.1
+
+pub before_last : (d e : At) → IsPast d e (codes "if __name__ == \"__main__\":" ∷ []) 0 → d.bytes ≡ text_of footer → e.bytes ≡ text_of (codes "    app.run()" ∷ []) ++ []
+before_last d e p h = append_cancel_left (text_of (codes "if __name__ == \"__main__\":" ∷ [])) _ _ (sym p.bytes ∙ h)
+
+pub at_end : (e f : At) → IsPast e f (codes "    app.run()" ∷ []) 0 → e.bytes ≡ text_of (codes "    app.run()" ∷ []) ++ [] → f.bytes ≡ []
+at_end e f p h = append_cancel_left (text_of (codes "    app.run()" ∷ [])) _ _ (sym p.bytes ∙ h)
+
+pub empty : (bytes : List ℕ) → length bytes ≡ 0 → bytes ≡ []
+empty [] e = refl
+empty (x ∷ xs) e = absurd (omega arith)

@@ -1,0 +1,69 @@
+-- Each line of a body is read in turn.
+use Rattle.std.proofs.Common.{◌≡◌, ◌<◌, List, [], ◌∷◌, ◌++◌, length, IsTrue, not, refl, inl, inr, sym, ap, ◌∙◌, arith, vec_len}
+use Rattle.std.proofs.lemmas.Bool.{eqb-true, eqb-false, false≢true}
+use Rattle.std.proofs.lemmas.Result.{err_from_is_err_and}
+use Rattle.line_parser.specs.FileReading.{At}
+use Rattle.line_parser.proofs.Bodies.{has_more, goes_on, last, next, view-push, joined}
+use Rattle.line_parser.specs.declared.thin_file.ThinFault.TheVariants.{Memory}
+use Rattle.notebook_meaning.specs.Thin.{is_empty, body_lines, text_of}
+use Rattle.py_tree.specs.Trees.{end, then_comes}
+use Rattle.py_tree.specs.View.{view_stmt, view_stmts}
+use Rattle.py_tree.specs.declared.tree.Stmt.{Stmt}
+use Rattle.line_parser.proofs.cells.body.Goals as goal
+
+no_lines : (xs : List Stmt) → length xs ≡ 0 → view_stmts xs ≡ end
+no_lines [] e = refl
+no_lines (x ∷ xs) e = absurd (omega arith)
+
+some_lines : (xs : List Stmt) → 0 < length xs → IsTrue (not (is_empty (view_stmts xs)))
+some_lines [] e = absurd (omega arith)
+some_lines (x ∷ xs) e = refl
+
+pub returns-in_err-stmt-clause-only : goal.returns-in_err-stmt-clause-only
+returns-in_err-stmt-clause-only c body rest fits some room e u =
+    let inv = c.loop-stmts.invariant in
+    let only = c.in_err-stmt.ensures.only in
+    let ends = c.in_err-stmt.ensures.ends in
+    let memory : c.in_err-stmt.field-0.0 ≡ Memory =
+    elim (next c.args.reader.now c.loop-stmts.reader (view_stmts c.loop-stmts.stmts.items) body rest inv.found fits room (inv.continues body rest fits room e u)) as (λ _. c.in_err-stmt.field-0.0 ≡ Memory) [
+      | inl n ↦ only n.head (text_of (body_lines n.more) ++ rest) n.fits n.room n.left
+      | inr n ↦ let none = ends (rw (← n.left) at u) in cc
+    ] in
+    let p = err_from_is_err_and c.from_residual.result c.from_residual.ensures.1 in
+    rw (p.1, p.2) memory
+
+pub loop-stmts-preserved : goal.loop-stmts-preserved
+loop-stmts-preserved c =
+    let inv = c.loop-stmts.invariant in
+    let done = view_stmts c.loop-stmts.stmts.items in
+    let s = c.in-Some.stmt in
+    let line = rw c.in-Some.is at c.in_ok-stmt.ensures.found in
+    let only = rw c.in-Some.is at c.in_ok-stmt.ensures.only in
+    let v : view_stmts c.push.new.self.items ≡ joined done (then_comes (view_stmt s) end) = ap view_stmts c.in_ok-push.ensures.items ∙ view-push c.loop-stmts.stmts.items s in
+    record {
+      found = rw v (has_more _ c.loop-stmts.reader _ done (view_stmt s) inv.found line);
+      continues = rw v (goes_on _ c.loop-stmts.reader _ done (view_stmt s) inv.found inv.continues line only);
+    }
+
+pub returns-then-is_empty-clause-only : goal.returns-then-is_empty-clause-only
+returns-then-is_empty-clause-only c body rest fits some room e u =
+    let inv = c.loop-stmts.invariant in
+    let size : vec_len c.loop-stmts.stmts ≡ 0 = eqb-true _ _ (sym c.if-is_empty.ensures) in
+    let none : view_stmts c.loop-stmts.stmts.items ≡ end = no_lines _ (omega (arith, c.loop-stmts.stmts.ok.0)) in
+    let only = rw c.in_default.is at c.in_ok-stmt.ensures.only in
+    let ended = last c.args.reader.now c.loop-stmts.reader (view_stmts c.loop-stmts.stmts.items) body rest inv.found (λ head after f r l. (only head after f r l).0) fits room (inv.continues body rest fits room e u) in
+    let empty : body ≡ end = ended.parts ∙ none in
+    absurd (false≢true (rw empty at some))
+
+pub returns-clause-some : goal.returns-clause-some
+returns-clause-some c =
+    let size : vec_len c.loop-stmts.stmts ≡ 0 → ⊥ = eqb-false _ _ (sym c.if-is_empty.ensures) in
+    some_lines _ (omega (arith, c.loop-stmts.stmts.ok.0))
+
+pub returns-clause-only : goal.returns-clause-only
+returns-clause-only c body rest fits some room e u =
+    let inv = c.loop-stmts.invariant in
+    let same : c.stmt.new.self ≡ c.loop-stmts.reader = rw c.in_default.is at c.in_ok-stmt.ensures.found in
+    let only = rw c.in_default.is at c.in_ok-stmt.ensures.only in
+    let ended = last c.args.reader.now c.loop-stmts.reader (view_stmts c.loop-stmts.stmts.items) body rest inv.found (λ head after f r l. (only head after f r l).0) fits room (inv.continues body rest fits room e u) in
+    (sym ended.parts, ap (λ (a : At). a.bytes) same ∙ ended.left)

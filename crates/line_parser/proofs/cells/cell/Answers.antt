@@ -1,0 +1,29 @@
+-- The decorator, the `def` line and the body are read in turn.
+use Rattle.std.proofs.Common.{◌++◌, ◌∙◌}
+use Rattle.std.proofs.lemmas.Result.{err_from_is_err_and}
+use Rattle.line_parser.proofs.WholeCells.{at_body, behind_decorator, is_read, same_cell}
+use Rattle.notebook_meaning.specs.Thin.{body_lines, text_of}
+use Rattle.line_parser.proofs.cells.cell.Goals as goal
+
+pub returns-in_err-expect-clause-only : goal.returns-in_err-expect-clause-only
+returns-in_err-expect-clause-only c cell rest fits room e u =
+    absurd (c.in_err-expect.ensures.refused (text_of (body_lines cell.body) ++ rest) (behind_decorator c.args.reader.now c.skip.new.self cell rest c.if-not-skip.ensures e))
+
+pub returns-in_err-body-clause-only : goal.returns-in_err-body-clause-only
+returns-in_err-body-clause-only c cell rest fits room e u =
+    let w = at_body c.args.reader.now c.skip.new.self c.expect.new.self cell rest c.if-not-skip.ensures c.in_ok-expect.ensures.found fits room e in
+    let p = err_from_is_err_and c.from_residual-in_err-body.result c.from_residual-in_err-body.ensures.1 in
+    rw (p.1, p.2) (c.in_err-body.ensures.only cell.body rest w.fits w.some w.room w.bytes u)
+
+pub returns-clause-found : goal.returns-clause-found
+returns-clause-found c =
+    let b = c.of.ensures.view in
+    let found = c.in_ok-body.ensures.found in
+    let some = c.in_ok-body.ensures.some in
+    is_read c.args.reader.now c.skip.new.self c.expect.new.self _ _ c.line-line.ensures c.if-not-skip.ensures c.in_ok-expect.ensures.found (rw b found) (rw b some)
+
+pub returns-clause-only : goal.returns-clause-only
+returns-clause-only c cell rest fits room e u =
+    let w = at_body c.args.reader.now c.skip.new.self c.expect.new.self cell rest c.if-not-skip.ensures c.in_ok-expect.ensures.found fits room e in
+    let o = c.in_ok-body.ensures.only cell.body rest w.fits w.some w.room w.bytes u in
+    (same_cell _ _ c.args.reader.now cell c.line-line.ensures (c.of.ensures.view ∙ o.0) fits, o.1)

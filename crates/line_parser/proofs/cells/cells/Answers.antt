@@ -1,0 +1,47 @@
+-- Each cell is read in turn.
+use Rattle.std.proofs.Common.{◌≡◌, [], ◌∷◌, ◌++◌, inl, inr, sym, ap, ◌∙◌}
+use Rattle.std.specs.Prelude.{flat_map}
+use Rattle.std.proofs.lemmas.Result.{err_from_is_err_and}
+use Rattle.line_parser.specs.FileReading.{At}
+use Rattle.line_parser.specs.declared.thin_file.ThinFault.TheVariants.{Memory}
+use Rattle.line_parser.proofs.WholeCells.{goes_on, has_more, last, less_room, next, view-push}
+use Rattle.notebook_meaning.specs.Thin.{cell_lines, text_of}
+use Rattle.py_tree.specs.View.{view_cell, view_cells}
+use Rattle.line_parser.proofs.cells.cells.Goals as goal
+
+pub returns-in_err-next-clause-only : goal.returns-in_err-next-clause-only
+returns-in_err-next-clause-only c cells rest fits room e u v =
+    let inv = c.loop-cells.invariant in
+    let only = c.in_err-next.ensures.only in
+    let ends = c.in_err-next.ensures.ends in
+    let memory : c.in_err-next.field-0.0 ≡ Memory =
+    elim (next c.args.reader.now c.loop-cells.reader (view_cells c.loop-cells.cells.items) cells rest inv.found fits room u (inv.continues cells rest fits room e u v)) as (λ _. c.in_err-next.field-0.0 ≡ Memory) [
+      | inl n ↦ only n.cell (text_of (flat_map cell_lines n.more) ++ rest) n.fits n.room n.left n.apart
+      | inr n ↦ let none = ends (rw (← n.left) at v) in cc
+    ] in
+    let p = err_from_is_err_and c.from_residual.result c.from_residual.ensures.1 in
+    rw (p.1, p.2) memory
+
+pub loop-cells-preserved : goal.loop-cells-preserved
+loop-cells-preserved c =
+    let inv = c.loop-cells.invariant in
+    let done = view_cells c.loop-cells.cells.items in
+    let x = c.in-Some.next in
+    let cell = rw c.in-Some.is at c.in_ok-next.ensures.found in
+    let only = rw c.in-Some.is at c.in_ok-next.ensures.only in
+    let v : view_cells c.push.new.self.items ≡ done ++ view_cell x ∷ [] = ap view_cells c.in_ok-push.ensures.items ∙ view-push c.loop-cells.cells.items x in
+    record {
+      found = rw v (has_more _ c.loop-cells.reader _ done (view_cell x) inv.found cell);
+      continues = rw v (goes_on _ c.loop-cells.reader _ done (view_cell x) inv.found inv.continues cell only);
+    }
+
+pub loop-cells-smaller : goal.loop-cells-smaller
+loop-cells-smaller c = less_room c.loop-cells.reader _ (view_cell c.in-Some.next) (rw c.in-Some.is at c.in_ok-next.ensures.found)
+
+pub returns-clause-only : goal.returns-clause-only
+returns-clause-only c cells rest fits room e u v =
+    let inv = c.loop-cells.invariant in
+    let same : c.cell.new.reader ≡ c.loop-cells.reader = rw c.in_default.is at c.in_ok-next.ensures.found in
+    let only = rw c.in_default.is at c.in_ok-next.ensures.only in
+    let ended = last c.args.reader.now c.loop-cells.reader (view_cells c.loop-cells.cells.items) cells rest inv.found (λ cell after f r l b. (only cell after f r l b).0) fits room u (inv.continues cells rest fits room e u v) in
+    (sym ended.parts, ap (λ (a : At). a.bytes) same ∙ ended.left)

@@ -1,0 +1,14 @@
+-- The cells so far, and that cells which the bytes begin with go on with what is left of them.
+use Rattle.line_parser.specs.FileReading.{HasCells}
+use Rattle.line_parser.proofs.WholeCells.{Continues}
+use Rattle.py_tree.specs.View.{view_cells}
+use Rattle.line_parser.proofs.cells.cells.Given as goal
+
+abbrev pub invariant-loop-cells : goal.invariant-loop-cells
+invariant-loop-cells l = record {
+  found : HasCells l.fn.reader l.reader (view_cells l.cells.items);
+  continues : Continues l.fn.reader l.reader (view_cells l.cells.items);
+}
+
+abbrev pub decreases-loop-cells : goal.decreases-loop-cells
+decreases-loop-cells l = l.reader.room

@@ -1,0 +1,56 @@
+// The cells of a file of the thin form.
+ghost use Rattle.std.specs.Prelude.{◌≡◌, IsTrue, not, Ok, None, MatchOption, IfOk};
+ghost use Rattle.line_parser.specs.FileReading.{BeginsWith, HasBody, HasCell, HasCells, ReadsBody, ReadsCell, ReadsCells};
+ghost use Rattle.notebook_meaning.specs.Thin.{is_empty};
+ghost use Rattle.py_tree.specs.View.{view_cell, view_cells, view_stmts};
+
+use crate::reader::Reader;
+use crate::thin_file::ThinFault;
+use py_tree::{Block, CellCode, Stmt};
+use std::alloc::Global;
+
+// Reads cells, as many as come.
+pub fn cells(alloc: Global, reader: &mut Reader) -> Result<Vec<CellCode>, ThinFault>
+    ensures found { IfOk result (λ v. HasCells reader.old reader.new (view_cells v.items)) }
+    ensures only { ReadsCells reader.old reader.new result }
+{
+    let mut cells = Vec::new(alloc);
+    while let Some(next) = cell(alloc, reader)? {
+        cells.push(next)?;
+    }
+    Ok(cells)
+}
+
+// Reads the cell that comes next. None where no decorator comes.
+fn cell(alloc: Global, reader: &mut Reader) -> Result<Option<CellCode>, ThinFault>
+    ensures found { IfOk result (λ o. MatchOption o (reader.new ≡ reader.old) (λ c. HasCell reader.old reader.new (view_cell c))) }
+    ensures only { ReadsCell reader.old reader.new result }
+    ensures ends { (BeginsWith 64 reader.old.bytes → ⊥) → result ≡ Ok None }
+{
+    let line = reader.line();
+    if !reader.skip(b"@app.cell") {
+        return Ok(None);
+    }
+    reader.expect(b"def _():")?;
+    let body = body(alloc, reader)?;
+    Ok(Some(CellCode {
+        line,
+        body: Block::of(body),
+    }))
+}
+
+// Reads a body, which has one line or more.
+fn body(alloc: Global, reader: &mut Reader) -> Result<Vec<Stmt>, ThinFault>
+    ensures found { IfOk result (λ v. HasBody reader.old reader.new (view_stmts v.items)) }
+    ensures some { IfOk result (λ v. IsTrue (not (is_empty (view_stmts v.items)))) }
+    ensures only { ReadsBody reader.old reader.new result }
+{
+    let mut stmts = Vec::new(alloc);
+    while let Some(stmt) = reader.stmt(alloc)? {
+        stmts.push(stmt)?;
+    }
+    if stmts.is_empty() {
+        return Err(reader.fault());
+    }
+    Ok(stmts)
+}

@@ -1,0 +1,125 @@
+use super::*;
+use std::alloc::AllocError;
+use std::test::Fail;
+
+const TWO_CELLS: &[u8] =
+    b"import marimo\napp = marimo.App()\n@app.cell\ndef _():\n    x = 1\n    x + 20\n@app.cell\ndef _():\n    y = x\nif __name__ == \"__main__\":\n    app.run()\n";
+
+fn outcome(alloc: Global, bytes: &[u8]) -> Result<(), ThinFault> {
+    thin(alloc, bytes)?;
+    Ok(())
+}
+
+// A file of one cell with so many body lines.
+fn long_file(alloc: Global, lines: u32) -> Result<Vec<u8>, AllocError> {
+    let mut bytes = Vec::new(alloc);
+    bytes.extend_from_slice(b"import marimo\napp = marimo.App()\n@app.cell\ndef _():\n")?;
+    for _ in 0..lines {
+        bytes.extend_from_slice(b"    x\n")?;
+    }
+    bytes.extend_from_slice(b"if __name__ == \"__main__\":\n    app.run()\n")?;
+    Ok(bytes)
+}
+
+#[test]
+fn reads_cells(rt: HostRuntime) -> Result<(), Fail> {
+    let cells = thin(rt.alloc(), TWO_CELLS)?;
+    assert_eq!(rt; cells.len(), 2);
+    assert_eq!(rt; cells[0].line, 3);
+    assert_eq!(rt; cells[1].line, 7);
+    let first = cells[0].body.items();
+    assert_eq!(rt; first.len(), 2);
+    assert_eq!(rt; first[0].number, 5);
+    assert_eq!(rt; first[1].number, 6);
+    let second = cells[1].body.items();
+    assert_eq!(rt; second.len(), 1);
+    assert_eq!(rt; second[0].number, 9);
+    Ok(())
+}
+
+#[test]
+fn reads_no_cells(rt: HostRuntime) {
+    let bytes = b"import marimo\napp = marimo.App()\nif __name__ == \"__main__\":\n    app.run()\n";
+    assert_eq!(rt; outcome(rt.alloc(), bytes), Ok(()));
+}
+
+#[test]
+fn refuses_the_first_line_that_does_not_fit(rt: HostRuntime) {
+    let files: [(&[u8], u32); 16] = [
+        (b"", 1),
+        (b"import marimo\r\napp = marimo.App()\r\n", 1),
+        (b"app = marimo.App()\n", 1),
+        (b"import marimo\n", 2),
+        (b"import marimo\napp = marimo.App()\ndef _():\n    x\n", 3),
+        (b"import marimo\napp = marimo.App()\n@app.cell\n    x\n", 4),
+        (
+            b"import marimo\napp = marimo.App()\n@app.cell\ndef _():\n@app.cell\n",
+            5,
+        ),
+        (
+            b"import marimo\napp = marimo.App()\n@app.cell\ndef _():\n   x\n",
+            5,
+        ),
+        (
+            b"import marimo\napp = marimo.App()\n@app.cell\ndef _():\n     x\n",
+            5,
+        ),
+        (
+            b"import marimo\napp = marimo.App()\n@app.cell\ndef _():\n    x\r\n",
+            5,
+        ),
+        (
+            b"import marimo\napp = marimo.App()\n@app.cell\ndef _():\n    x\n    y",
+            6,
+        ),
+        (
+            b"import marimo\napp = marimo.App()\n@app.cell\ndef _():\n    x\n\n",
+            6,
+        ),
+        (
+            b"import marimo\napp = marimo.App()\nif __name__ == '__main__':\n    app.run()\n",
+            3,
+        ),
+        (
+            b"import marimo\napp = marimo.App()\nif __name__ == \"__main__\":\n",
+            4,
+        ),
+        (
+            b"import marimo\napp = marimo.App()\nif __name__ == \"__main__\":\n    app.run()",
+            4,
+        ),
+        (
+            b"import marimo\napp = marimo.App()\nif __name__ == \"__main__\":\n    app.run()\n\n",
+            5,
+        ),
+    ];
+    for (bytes, line) in files {
+        assert_eq!(rt;
+            outcome(rt.alloc(), bytes),
+            Err(ThinFault::Thin { line }),
+            "{line}"
+        );
+    }
+}
+
+#[test]
+fn refuses_more_body_lines_than_a_thousand(rt: HostRuntime) -> Result<(), Fail> {
+    let fits = long_file(rt.alloc(), 1000)?;
+    assert_eq!(rt; outcome(rt.alloc(), &fits), Ok(()));
+    let longer = long_file(rt.alloc(), 1001)?;
+    assert_eq!(rt;
+        outcome(rt.alloc(), &longer),
+        Err(ThinFault::Thin { line: 1005 })
+    );
+    Ok(())
+}
+
+#[test]
+fn refuses_more_bytes_than_a_mebibyte(rt: HostRuntime) -> Result<(), Fail> {
+    let alloc = rt.alloc();
+    let mut bytes = vec![in alloc; b'x'; 1_048_576]?;
+    assert_eq!(rt; outcome(alloc, &bytes), Err(ThinFault::Thin { line: 1 }));
+    bytes.push(b'x')?;
+    assert_eq!(rt; outcome(alloc, &bytes), Err(ThinFault::Thin { line: 0 }));
+    Ok(())
+}
