@@ -1,6 +1,6 @@
 -- Clauses on results.
-use Rattle.std.proofs.Common.{◌≡◌, ◌∙◌}
-use Rattle.std.specs.Prelude.{Result, Ok, Err, IfOk, OnOk}
+use Rattle.std.proofs.Common.{◌≡◌, ◌∙◌, sym, subst}
+use Rattle.std.specs.Prelude.{Result, Ok, Err, IfOk, IfErr, IsErrAnd, OnOk}
 
 -- a value that is equal to another
 pub if_ok_along : {T E : Type 0} (r : Result T E) (a b : T) → a ≡ b → IfOk r (λ x. x ≡ a) → IfOk r (λ x. x ≡ b)
@@ -21,3 +21,8 @@ on_ok_then (Err x) P Q f h = tt
 pub if_ok_each : {T E A : Type 0} (r : Result T E) (Q : A → Type 0) (a : T) (b : A → T) → ((x : A) → Q x → a ≡ b x) → IfOk r (λ t. t ≡ a) → IfOk r (λ t. (x : A) → Q x → t ≡ b x)
 if_ok_each (Ok t) Q a b f h = λ x q. h ∙ f x q
 if_ok_each (Err e) Q a b f h = tt
+
+-- an error of which a fact holds
+pub if_err_of : {T E : Type 0} (r : Result T E) (e : E) (P : E → Type 0) → IsErrAnd r (λ x. x ≡ e) → P e → IfErr r P
+if_err_of (Ok x) e P h p = tt
+if_err_of (Err x) e P h p = subst P (sym h) p

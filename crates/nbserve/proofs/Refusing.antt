@@ -11,9 +11,9 @@ use Rattle.nbserve.specs.Unopened.{IsWhy, of_graph}
 
 -- the one notebook of the bytes is none that is accepted
 none_accepted : (bytes : List ℕ) (cells : List Cell) → ((nb : List Cell) → IsForm bytes nb → cells ≡ nb) → (NoneDoubled cells → NoneCyclic cells → ⊥) → IsRefused bytes
-none_accepted bytes cells only no nb ok =
+none_accepted bytes cells only never nb ok =
     let same : nb ≡ cells = sym (only nb ok.form) in
-    no (subst NoneDoubled same ok.once) (subst NoneCyclic same ok.free)
+    never (subst NoneDoubled same ok.once) (subst NoneCyclic same ok.free)
 
 pub refused_by_graph : (bytes : List ℕ) (cells : List Cell) (fault : GraphFault) → ((nb : List Cell) → IsForm bytes nb → cells ≡ nb) → IsCauseOf fault cells → IsWhy (of_graph fault) bytes
 refused_by_graph bytes cells graph.Doubly only cause = (none_accepted bytes cells only (λ once free. cause once), inr refl)

@@ -36,7 +36,7 @@ comes_refused holds unread words file bytes line asked read why = once.refused f
 -- the statuses
 comes_range : (holds : List ℕ → Option (Option (List ℕ))) (unread : Type 0) (words : List (List ℕ)) (status : ℕ) (text : List ℕ) → Comes holds unread words status text → status ≤ 3
 comes_range holds unread words status text (once.opened file bytes nb a r acc e t) = subst (λ n. n ≤ 3) (sym e) (lit≤ tt)
-comes_range holds unread words status text (once.refused file bytes line a r no f e t) = subst (λ n. n ≤ 3) (sym e) (lit≤ tt)
+comes_range holds unread words status text (once.refused file bytes line a r none f e t) = subst (λ n. n ≤ 3) (sym e) (lit≤ tt)
 comes_range holds unread words status text (once.usage a e t) = subst (λ n. n ≤ 3) (sym e) (lit≤ tt)
 comes_range holds unread words status text (once.unread file a f e t) = subst (λ n. n ≤ 3) (sym e) (lit≤ tt)
 
@@ -65,7 +65,7 @@ module _ (holds : List ℕ → Option (Option (List ℕ))) (unread unwritten : T
   -- a read fault has its cause
   pub wrote_read : Wrote holds unread unwritten words status before now → status ≡ 3 → unread
   wrote_read (wrote.whole text (once.opened file bytes nb a r acc e t) took) h = absurd (omega (arith, e, h))
-  wrote_read (wrote.whole text (once.refused file bytes line a r no f e t) took) h = absurd (omega (arith, e, h))
+  wrote_read (wrote.whole text (once.refused file bytes line a r none f e t) took) h = absurd (omega (arith, e, h))
   wrote_read (wrote.whole text (once.usage a e t) took) h = absurd (omega (arith, e, h))
   wrote_read (wrote.whole text (once.unread file a f e t) took) h = f
   wrote_read (wrote.cut text e why begins took) h = absurd (omega (arith, e, h))
@@ -80,7 +80,7 @@ module _ (holds : List ℕ → Option (Option (List ℕ))) (unread unwritten : T
   -- words that are no form
   pub wrote_usage : Wrote holds unread unwritten words status before now → command_of words ≡ None → (status ≡ 2) ⊎ (status ≡ 4) ⊎ (status ≡ 5)
   wrote_usage (wrote.whole text (once.opened file bytes nb a r acc e t) took) h = let no : None ≡ Some (Once file) = sym h ∙ a in absurd cc
-  wrote_usage (wrote.whole text (once.refused file bytes line a r no f e t) took) h = let none : None ≡ Some (Once file) = sym h ∙ a in absurd cc
+  wrote_usage (wrote.whole text (once.refused file bytes line a r none f e t) took) h = let none : None ≡ Some (Once file) = sym h ∙ a in absurd cc
   wrote_usage (wrote.whole text (once.usage a e t) took) h = inl e
   wrote_usage (wrote.whole text (once.unread file a f e t) took) h = let no : None ≡ Some (Once file) = sym h ∙ a in absurd cc
   wrote_usage (wrote.cut text e why begins took) h = inr (inl e)
@@ -89,8 +89,8 @@ module _ (holds : List ℕ → Option (Option (List ℕ))) (unread unwritten : T
   -- accepted bytes, where the files tell them
   pub wrote_accepted : Wrote holds unread unwritten words status before now → (file all : List ℕ) (nb : List Cell) → command_of words ≡ Some (Once file) → holds file ≡ Some (Some all) → IsAccepted (read_of all) nb → (status ≡ 0) ⊎ (status ≡ 3) ⊎ (status ≡ 4) ⊎ (status ≡ 5)
   wrote_accepted (wrote.whole text (once.opened f bytes n a r acc e t) took) file all nb asked told ok = inl e
-  wrote_accepted (wrote.whole text (once.refused f bytes line a r no formless e t) took) file all nb asked told ok =
-      absurd (no nb (subst (λ bs. IsAccepted bs nb) (sym (read_is_of holds words f file bytes all a asked told r)) ok))
+  wrote_accepted (wrote.whole text (once.refused f bytes line a r none formless e t) took) file all nb asked told ok =
+      absurd (none nb (subst (λ bs. IsAccepted bs nb) (sym (read_is_of holds words f file bytes all a asked told r)) ok))
   wrote_accepted (wrote.whole text (once.usage a e t) took) file all nb asked told ok = let no : None ≡ Some (Once file) = sym a ∙ asked in absurd cc
   wrote_accepted (wrote.whole text (once.unread f a why e t) took) file all nb asked told ok = inr (inl e)
   wrote_accepted (wrote.cut text e why begins took) file all nb asked told ok = inr (inr (inl e))

@@ -1,6 +1,8 @@
 //! The program that serves notebooks.
 #![tactic(auto)]
 
+ghost use Rattle.std.specs.Prelude.{◌≡◌, ◌<◌};
+
 mod cell_frame;
 mod progress;
 mod texts;
@@ -10,10 +12,37 @@ mod words;
 
 use link_io::{RealFiles, RealOut};
 use py_eval::Steps;
-use std::alloc::Global;
 use std::env;
 use std::io::ErrorKind;
+use std::marker::Brand;
 use std::process::ExitCode;
+use std::sync::ledger::{Blank, Ledger};
+use top::{WANT_OF_MEMORY, run_words};
 
-fn main() {
+// Runs the program over the files of the system and the standard output. Its steps count for nobody.
+fn run_really<L: Ledger>(rt: &HostRuntime, words: &[String], blank: Blank) -> u8
+    requires { (blank.name ≡ L.name) × (blank.parts ≡ L.parts) × (0 < blank.parts) }
+{
+    let mut files = RealFiles::new(rt);
+    let mut out = RealOut::new(rt);
+    let mut steps = Steps::<L>::new(blank);
+    run_words(rt.alloc(), words, &mut files, &mut out, &mut steps)
+}
+
+// The words of the command line without the program's own name; none where memory is wanting. A word that is no text is no word
+// of any command, so there are then no words.
+fn words_of(rt: &HostRuntime) -> Option<Vec<String>> {
+    match env::args(rt) {
+        Ok(all) => all.skip(1).collect(rt.alloc()).ok(),
+        Err(why) if why.kind() == ErrorKind::InvalidData => Some(Vec::new(rt.alloc())),
+        Err(_) => None,
+    }
+}
+
+fn main(rt: HostRuntime) -> ExitCode {
+    let status = match words_of(&rt) {
+        Some(words) => run_really::<Brand>(&rt, words.as_slice(), Blank::new(1)),
+        None => WANT_OF_MEMORY,
+    };
+    ExitCode::from(status)
 }

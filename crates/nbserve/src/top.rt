@@ -7,7 +7,7 @@ ghost use Rattle.py_tree.specs.Trees.{Cell};
 
 use crate::texts::refusal_text;
 use crate::unopened::{Unopened, opening_text};
-use crate::words::{Command, read_words};
+use crate::words::once_file;
 use link_io::{Files, ReadFault, Sink, read_file, write_all};
 use py_eval::Steps;
 use std::alloc::Global;
@@ -18,10 +18,10 @@ const BYTE_LIMIT: u64 = 1_048_576;
 
 const DONE: u8 = 0;
 const REFUSED: u8 = 1;
-const USAGE: u8 = 2;
+pub const USAGE: u8 = 2;
 const READ_FAULT: u8 = 3;
 const WRITE_FAULT: u8 = 4;
-const WANT_OF_MEMORY: u8 = 5;
+pub const WANT_OF_MEMORY: u8 = 5;
 
 // Writes the text of a status, and answers the status, or that the text couldn't be written.
 fn end_with<O: Sink>(out: &mut O, text: &[u8], status: u8) -> u8
@@ -95,8 +95,8 @@ pub fn run_words<F: Files, O: Sink, L: Ledger>(
         → F.holds files.old file ≡ Some (Some all) → IsAccepted (read_of all) nb
         → (result ≡ 0) ⊎ (result ≡ 3) ⊎ (result ≡ 4) ⊎ (result ≡ 5) }
 {
-    match read_words(words) {
-        Some(Command::Once { file }) => run_once(alloc, file, files, out, steps),
+    match once_file(words) {
+        Some(file) => run_once(alloc, file, files, out, steps),
         None => end_with(out, b"usage\n", USAGE),
     }
 }

@@ -1,8 +1,10 @@
 -- The bytes have the form of one notebook alone.
-use Rattle.std.proofs.Common.{◌≡◌, ◌<◌, ◌^◌, length, arith, sym, subst, inr, List, ℕ}
+use Rattle.std.proofs.Common.{arith}
 use Rattle.std.proofs.lemmas.List.{length-map}
 use Rattle.py_tree.specs.View.{view_cell, view_cells}
 use Rattle.nbserve.proofs.ThinCode.{thin_few}
+use Rattle.nbserve.specs.Unopened.{IsWhy, of_graph}
+use Rattle.nbserve.proofs.Outcomes.{if_err_of}
 use Rattle.nbserve.proofs.Refusing.{refused_by_graph}
 use Rattle.nbserve.proofs.unopened.opening_text.Goals as goal
 
@@ -12,4 +14,7 @@ notebook-requires g c =
     omega (arith, thin_few (view_cells cells) c.in_ok-cells.ensures.cells.thin, length-map cells view_cell)
 
 pub returns-in_err-notebook-clause-refused : goal.returns-in_err-notebook-clause-refused
-returns-in_err-notebook-clause-refused g c = ?
+returns-in_err-notebook-clause-refused g c =
+    let fault = c.in_err-notebook.field-0.0 in
+    if_err_of c.from_residual-in_err-notebook.result (of_graph fault) (λ why. IsWhy why c.args.bytes.now) c.from_residual-in_err-notebook.ensures.1
+    (refused_by_graph c.args.bytes.now (view_cells c.in_ok-cells.cells.items) fault c.in_ok-cells.ensures.only c.in_err-notebook.ensures.refused)
