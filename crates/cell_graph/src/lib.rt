@@ -4,7 +4,10 @@
 mod cell_list;
 mod cell_names;
 mod check;
+mod free;
 mod graph;
+mod name_set;
+mod occurrences;
 
 pub use cell_list::CellList;
 pub use cell_names::{defs, refs};
