@@ -3,7 +3,6 @@ use Rattle.std.specs.Prelude.{ℕ, List, [], ◌∷◌, pos, Option, Some, None}
 use Rattle.py_tree.specs.Names.{Name}
 use Rattle.py_tree.specs.Numbers.{number_of}
 use Rattle.py_tree.specs.Trees.{Tree, literal, name, sum, Head, value, assign, stmt, Stmts, end, then_comes}
-use Rattle.py_tree.specs.declared.token.Token.{Token}
 use Rattle.py_value.specs.Maps.{Map, look_up, put}
 use Rattle.py_value.specs.Whole.{sum_of}
 use Rattle.py_value.specs.declared.values.Value.{Value}

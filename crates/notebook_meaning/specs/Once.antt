@@ -1,5 +1,5 @@
 -- What the program writes, and its status.
-use Rattle.std.specs.Prelude.{◌≡◌, ℕ, ◌+◌, Bool, false, cond, not, ◌&&◌, ◌==◌, List, [], ◌∷◌, ◌++◌, take, codes, decimal, Option, Some, None, IfSome}
+use Rattle.std.specs.Prelude.{◌≡◌, ◌⊎◌, ℕ, ◌+◌, Bool, false, cond, not, ◌&&◌, ◌==◌, List, [], ◌∷◌, ◌++◌, take, codes, decimal, Option, Some, None, IfSome}
 use Rattle.std.specs.Str.{bytes_eq}
 use Rattle.py_tree.specs.Trees.{Cell}
 use Rattle.notebook_meaning.specs.Graph.{NoneDoubled, NoneCyclic}
@@ -49,25 +49,30 @@ command_of (word ∷ file ∷ more ∷ words) = None
 abbrev pub read_of : List ℕ → List ℕ
 read_of bytes = take (byte_limit + 1) bytes
 
--- the bytes are what is read of the file, where the files tell what it holds
-abbrev pub AreRead : (List ℕ → Option (List ℕ)) → List ℕ → List ℕ → Type 0
-AreRead holds file bytes = IfSome (holds file) (λ all. bytes ≡ read_of all)
+-- The bytes are what is read of the file, where it is told what the name stands for: there is such a file then.
+abbrev pub AreRead : (List ℕ → Option (Option (List ℕ))) → List ℕ → List ℕ → Type 0
+AreRead holds file bytes = IfSome (holds file) (λ told. (all : List ℕ) × (told ≡ Some all) × (bytes ≡ read_of all))
 
--- The status and the whole text that a run of the program comes to where nothing stops it.
-pub data Comes (holds : List ℕ → Option (List ℕ)) (words : List (List ℕ)) (status : ℕ) (text : List ℕ) : Type 0 where
+-- no notebook's file are these bytes
+abbrev pub IsFormless : List ℕ → Type 0
+IsFormless bytes = (nb : List Cell) → IsForm bytes nb → ⊥
+
+-- The status and the whole text that a run of the program comes to where nothing stops it. `holds` is what the names of files
+-- stand for, where that is told: nothing, or some bytes. `failed` says that a read failed.
+pub data Comes (holds : List ℕ → Option (Option (List ℕ))) (failed : Type 0) (words : List (List ℕ)) (status : ℕ) (text : List ℕ) : Type 0 where
   -- 0: the notebook was opened
   opened : (file bytes : List ℕ) (nb : List Cell) → command_of words ≡ Some (Once file) → AreRead holds file bytes
-      → IsAccepted bytes nb → status ≡ 0 → text ≡ once_text nb → Comes holds words status text
-  -- 1: the bytes are refused
+      → IsAccepted bytes nb → status ≡ 0 → text ≡ once_text nb → Comes holds failed words status text
+  -- 1: the bytes are refused; line 0 stands for a name that is defined in two cells, and for a cycle
   refused : (file bytes : List ℕ) (line : ℕ) → command_of words ≡ Some (Once file) → AreRead holds file bytes
-      → IsRefused bytes → status ≡ 1 → text ≡ refusal_text line → Comes holds words status text
+      → IsRefused bytes → IsFormless bytes ⊎ (line ≡ 0) → status ≡ 1 → text ≡ refusal_text line → Comes holds failed words status text
   -- 2: the words are no form
-  usage : command_of words ≡ None → status ≡ 2 → text ≡ codes "usage\n" → Comes holds words status text
+  usage : command_of words ≡ None → status ≡ 2 → text ≡ codes "usage\n" → Comes holds failed words status text
   -- 3: the file couldn't be read
-  unread : (file : List ℕ) → command_of words ≡ Some (Once file) → status ≡ 3 → text ≡ codes "read fault\n"
-      → Comes holds words status text
+  unread : (file : List ℕ) → command_of words ≡ Some (Once file) → failed → status ≡ 3 → text ≡ codes "read fault\n"
+      → Comes holds failed words status text
 
 -- nothing, or a beginning of the text that a run comes to
-pub data Begins (holds : List ℕ → Option (List ℕ)) (words : List (List ℕ)) (part : List ℕ) : Type 0 where
-  nothing : part ≡ [] → Begins holds words part
-  beginning : (status : ℕ) (text rest : List ℕ) → Comes holds words status text → part ++ rest ≡ text → Begins holds words part
+pub data Begins (holds : List ℕ → Option (Option (List ℕ))) (failed : Type 0) (words : List (List ℕ)) (part : List ℕ) : Type 0 where
+  nothing : part ≡ [] → Begins holds failed words part
+  beginning : (status : ℕ) (text rest : List ℕ) → Comes holds failed words status text → part ++ rest ≡ text → Begins holds failed words part

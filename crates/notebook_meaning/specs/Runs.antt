@@ -1,9 +1,7 @@
 -- The runs of a trace as a relation: to its end, or cut directly after one of its charges.
 use Rattle.std.specs.Prelude.{◌≡◌, ℕ, ◌+◌, ◌<◌, List, [], ◌∷◌, ◌++◌}
-use Rattle.py_tree.specs.Trees.{Tree, Stmts}
 use Rattle.py_value.specs.declared.values.ErrorKind.{ErrorKind}
 use Rattle.notebook_meaning.specs.Trace.{Trace, Gives, Faults, Charges, Prints}
-use Rattle.notebook_meaning.specs.Meaning.{Scene, Env, value_of, block_of}
 use Rattle.notebook_meaning.specs.Spending.{Spending, Got, Failed, Spent, spend}
 
 -- what a run leaves behind on its way

@@ -1,11 +1,10 @@
 -- The thin form of a notebook file: the cells that it has, and the text that they print.
-use Rattle.std.specs.Prelude.{◌≡◌, ℕ, ◌+◌, ◌≤◌, Bool, true, false, not, ◌&&◌, ◌||◌, ◌==◌, nat_lt, nat_le, IsTrue, List, [], ◌∷◌, ◌++◌, length, flat_map, sum_by, codes}
+use Rattle.std.specs.Prelude.{◌≡◌, ℕ, ◌+◌, ◌≤◌, Bool, true, false, not, ◌&&◌, ◌||◌, ◌==◌, nat_le, IsTrue, List, [], ◌∷◌, ◌++◌, length, flat_map, sum_by, codes}
 use Rattle.std.specs.List.{list_all}
 use Rattle.py_tree.specs.Names.{Name, is_among, is_lower, is_digit, keywords, unused_keywords, builtins}
 use Rattle.py_tree.specs.Levels.{is_literal}
 use Rattle.py_tree.specs.Trees.{Tree, literal, name, sum, Head, value, assign, stmt, Stmts, end, then_comes, Cell}
 use Rattle.py_tree.specs.Tokens.{spaced, head_tokens}
-use Rattle.py_tree.specs.declared.token.Token.{Token}
 
 -- the words that are no names in this form
 abbrev pub reserved : List Name

@@ -16,7 +16,7 @@ use Rattle.notebook_meaning.specs.declared.frames.OutputKind.TheVariants as outp
 use Rattle.notebook_meaning.specs.declared.frames.CellError.{CellError}
 use Rattle.notebook_meaning.specs.declared.frames.CellFrame.{CellFrame}
 use Rattle.notebook_meaning.specs.Graph.{parents, order}
-use Rattle.notebook_meaning.specs.Meaning.{Env, Scene, Flow}
+use Rattle.notebook_meaning.specs.Meaning.{Env, Flow}
 use Rattle.notebook_meaning.specs.Spending.{Spending, Got, Failed, Spent, runs, cost_of, console_of}
 
 -- what a value shows as the output of a cell
@@ -59,6 +59,25 @@ env_after env (Got flow left console) = where_name (λ x. not (is_local x)) flow
 env_after env (Failed kind line left console) = env
 env_after env (Spent line left console) = env
 
+-- what a cell of the order does: its result, the bindings after it, and its cost
+pub record Outcome : Type 0 where
+  pub frame : CellFrame
+  pub env : Env
+  pub cost : ℕ
+
+-- a cell that runs, from these bindings
+abbrev pub ran : ℕ → Env → ℕ → Spending Flow → Outcome
+ran c env budget run = record { frame = ran_frame c run; env = env_after env run; cost = cost_of budget run }
+
+abbrev pub cancelled : ℕ → Env → Outcome
+cancelled c env = record { frame = cancelled_frame c; env = env; cost = 0 }
+
+-- The cell with the number c. Its definitions are removed first; it runs where it may, and else it is cancelled.
+abbrev pub outcome_of : ℕ → Map Value → Bool → ℕ → Env → Cell → Outcome
+outcome_of budget ui may_run c env code =
+    let from = without_defs code env in
+    cond may_run (ran c from budget (runs (record { own = []; present = ui }) from code.body budget)) (cancelled c from)
+
 -- where the run of a notebook stands: the bindings, and the results and costs of the cells so far
 pub record Progress : Type 0 where
   pub env : Env
@@ -75,21 +94,14 @@ is_ok status.Cancelled = false
 abbrev pub ended_ok : List CellFrame → ℕ → Bool
 ended_ok frames c = list_any (λ (f : CellFrame). (f.cell == c) && is_ok f.status) frames
 
-abbrev pub with_run : Progress → ℕ → Env → Spending Flow → ℕ → Progress
-with_run p c env run budget =
-    record { env = env_after env run; frames = p.frames ++ ran_frame c run ∷ []; costs = p.costs ++ cost_of budget run ∷ [] }
+abbrev pub with_outcome : Progress → Outcome → Progress
+with_outcome p o = record { env = o.env; frames = p.frames ++ o.frame ∷ []; costs = p.costs ++ o.cost ∷ [] }
 
-abbrev pub with_cancelled : Progress → ℕ → Env → Progress
-with_cancelled p c env = record { env = env; frames = p.frames ++ cancelled_frame c ∷ []; costs = p.costs ++ 0 ∷ [] }
-
--- One cell of the order. Its definitions are removed first; it runs where all its parents are ok, and else it is cancelled.
+-- one cell of the order: it may run where all its parents have ended ok
 abbrev pub with_code : List Cell → ℕ → Map Value → Progress → ℕ → Option Cell → Progress
 with_code nb budget ui p c None = p
 with_code nb budget ui p c (Some code) =
-    let env = without_defs code p.env in
-    cond (list_all (ended_ok p.frames) (parents nb c))
-    (with_run p c env (runs (record { own = []; present = ui }) env code.body budget) budget)
-    (with_cancelled p c env)
+    with_outcome p (outcome_of budget ui (list_all (ended_ok p.frames) (parents nb c)) c p.env code)
 
 abbrev pub with_cell : List Cell → ℕ → Map Value → Progress → ℕ → Progress
 with_cell nb budget ui p c = with_code nb budget ui p c (slice_get nb c)
