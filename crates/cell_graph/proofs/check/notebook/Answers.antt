@@ -1,0 +1,26 @@
+-- A full order leaves no cycle, and a short one leaves some.
+use Rattle.std.proofs.Common.{◌≡◌, ◌<◌, List, ℕ, length, map, sym, ap, ◌∙◌, subst, arith}
+use Rattle.std.proofs.lemmas.List.{length-map}
+use Rattle.py_tree.specs.Trees.{Cell}
+use Rattle.py_tree.specs.View.{view_cell, view_cells}
+use Rattle.notebook_meaning.specs.Graph.{order}
+use Rattle.notebook_meaning.proofs.Orders.{full_is_free, short_is_cyclic}
+use Rattle.cell_graph.specs.Kept.{AreParents}
+use Rattle.cell_graph.proofs.Places.{order_fits}
+use Rattle.cell_graph.proofs.check.notebook.Goals as goal
+
+pub returns-then-len-clause-refused : goal.returns-then-len-clause-refused
+returns-then-len-clause-refused c =
+    let nb : List Cell = view_cells c.args.cells.items in
+    let ordered = c.in_ok-ordered.ensures nb (search (arith, c.in_ok-above.ensures.parents)) in
+    let size = length-map c.args.cells.items view_cell in
+    let short : length (order nb) < length nb = omega (arith, ap length ordered) in
+    (search (arith, c.in_ok-above.ensures.once), λ free. short_is_cyclic nb short free)
+
+pub returns-clause-free : goal.returns-clause-free
+returns-clause-free c =
+    let nb : List Cell = view_cells c.args.cells.items in
+    let ordered = c.in_ok-ordered.ensures nb (search (arith, c.in_ok-above.ensures.parents)) in
+    let size = length-map c.args.cells.items view_cell in
+    let full : length (order nb) ≡ length nb = omega (arith, ap length ordered, order_fits nb) in
+    full_is_free nb full
