@@ -1,12 +1,12 @@
 -- Lists of numbers one after the other, and sets of some of them.
-use Rattle.std.proofs.Common.{◌≡◌, ℕ, zero, suc, ◌+◌, ◌<◌, ◌≤◌, Bool, true, false, cond, ◌||◌, ◌==◌, ◌⊎◌, inl, inr, ⊎_elim, List, [], ◌∷◌, ◌++◌, length, filter, find, Option, Some, None, slice_get, refl, sym, ap, ◌∙◌, subst, arith}
+use Rattle.std.proofs.Common.{◌≡◌, ℕ, zero, suc, ◌+◌, ◌<◌, ◌≤◌, Bool, true, false, cond, not, ◌&&◌, ◌||◌, ◌==◌, ◌⊎◌, inl, inr, ⊎_elim, List, [], ◌∷◌, ◌++◌, length, filter, find, Option, Some, None, slice_get, refl, sym, ap, ◌∙◌, subst, arith}
 use Rattle.std.specs.BTreeSet.{insert_key}
 use Rattle.std.specs.Cmp.{nat_cmp_is}
 use Rattle.std.specs.List.{list_any}
 use Rattle.std.specs.Ordering.{nat_cmp, match_ordering}
 use Rattle.std.specs.declared.cmp.Ordering.{Ordering}
 use Rattle.std.specs.declared.cmp.Ordering.TheVariants.{Less, Equal, Greater}
-use Rattle.std.proofs.lemmas.Bool.{both_ways, cases_Bool, cases_eq, cases_order, eq-eqb, eqb-true, ne_eqb, or_cases, or_left, or_right, false_from_ne_true}
+use Rattle.std.proofs.lemmas.Bool.{both_ways, cases_Bool, cases_eq, cases_order, eq-eqb, eqb-true, ne_eqb, or_cases, or_left, or_right, and_left, and_right, false_from_ne_true}
 use Rattle.notebook_meaning.specs.Graph.{numbers_from, is_in}
 
 -- as many numbers for lists of the same length
@@ -78,3 +78,73 @@ inserted p k n (x ∷ xs) low high = ⊎_elim
 pub none_pass : (p : ℕ → Bool) → ((d : ℕ) → p d ≡ false) → (cs : List ℕ) → filter p cs ≡ []
 none_pass p h [] = refl
 none_pass p h (c ∷ cs) = ap (λ b. cond b (c ∷ filter p cs) (filter p cs)) (h c) ∙ none_pass p h cs
+
+-- tests that agree on the numbers
+pub filter_within : {X : Type 0} (f g : ℕ → Bool) (n : ℕ) (xs : List X) → ((d : ℕ) → n ≤ d → d < n + length xs → f d ≡ g d)
+    → filter f (numbers_from n xs) ≡ filter g (numbers_from n xs)
+filter_within f g n [] h = refl
+filter_within f g n (x ∷ xs) h =
+    let rest = filter_within f g (n + 1) xs (λ d low high. h d (omega arith) (omega arith)) in
+    λ i. cond (h n (omega arith) (omega arith) i) (n ∷ rest i) (rest i)
+
+pub find_within : {X : Type 0} (f g : ℕ → Bool) (n : ℕ) (xs : List X) → ((d : ℕ) → n ≤ d → d < n + length xs → f d ≡ g d)
+    → find f (numbers_from n xs) ≡ find g (numbers_from n xs)
+find_within f g n [] h = refl
+find_within f g n (x ∷ xs) h =
+    let rest = find_within f g (n + 1) xs (λ d low high. h d (omega arith) (omega arith)) in
+    λ i. cond (h n (omega arith) (omega arith) i) (Some n) (rest i)
+
+-- the first number of a set of some of the numbers, and the set without it
+pub record Popped {X : Type 0} (p : ℕ → Bool) (n : ℕ) (xs : List X) (c : ℕ) (rest : List ℕ) : Type 0 where
+  pub found : find p (numbers_from n xs) ≡ Some c
+  pub passes : p c ≡ true
+  pub low : n ≤ c
+  pub high : c < n + length xs
+  pub others : rest ≡ filter (λ d. p d && not (d == c)) (numbers_from n xs)
+
+-- without a number below all
+without_below : {X : Type 0} (p : ℕ → Bool) (c n : ℕ) (xs : List X) → c < n
+    → filter p (numbers_from n xs) ≡ filter (λ d. p d && not (d == c)) (numbers_from n xs)
+without_below p c n xs h = filter_within p (λ d. p d && not (d == c)) n xs (λ d low high. apart (p d) (d == c) (ne_eqb d c (λ e. omega arith)))
+  where
+    apart : (b e : Bool) → e ≡ false → b ≡ (b && not e)
+    apart true true off = sym off
+    apart true false off = refl
+    apart false e off = refl
+
+pub popped : {X : Type 0} (p : ℕ → Bool) (n : ℕ) (xs : List X) (c : ℕ) (rest : List ℕ) → filter p (numbers_from n xs) ≡ c ∷ rest → Popped p n xs c rest
+popped p n [] c rest h = let bad : [] ≡ c ∷ rest = h in absurd cc
+popped p n (x ∷ xs) c rest h = ⊎_elim
+    (λ on.
+    let e : n ∷ filter p (numbers_from (n + 1) xs) ≡ c ∷ rest = sym (ap (λ b. cond b (n ∷ filter p (numbers_from (n + 1) xs)) (filter p (numbers_from (n + 1) xs))) on) ∙ h in
+    let same : n ≡ c = cc in
+    let tail : filter p (numbers_from (n + 1) xs) ≡ rest = cc in
+    let itself : (p n && not (n == c)) ≡ false = ap (λ b. p n && not b) (eq-eqb n c same) ∙ and_right (p n) false refl in
+    record {
+      found = ap (λ b. cond b (Some n) (find p (numbers_from (n + 1) xs))) on ∙ ap Some same;
+      passes = sym (ap p same) ∙ on;
+      low = omega arith;
+      high = omega arith;
+      others = sym tail ∙ without_below p c (n + 1) xs (omega arith)
+        ∙ sym (ap (λ b. cond b (n ∷ filter (λ d. p d && not (d == c)) (numbers_from (n + 1) xs)) (filter (λ d. p d && not (d == c)) (numbers_from (n + 1) xs))) itself);
+    })
+    (λ off.
+    let e : filter p (numbers_from (n + 1) xs) ≡ c ∷ rest = sym (ap (λ b. cond b (n ∷ filter p (numbers_from (n + 1) xs)) (filter p (numbers_from (n + 1) xs))) off) ∙ h in
+    let later = popped p (n + 1) xs c rest e in
+    let fails : (p n && not (n == c)) ≡ false = and_left (p n) _ off in
+    record {
+      found = ap (λ b. cond b (Some n) (find p (numbers_from (n + 1) xs))) off ∙ later.found;
+      passes = later.passes;
+      low = omega (arith, later.low);
+      high = omega (arith, later.high);
+      others = later.others ∙ sym (ap (λ b. cond b (n ∷ filter (λ d. p d && not (d == c)) (numbers_from (n + 1) xs)) (filter (λ d. p d && not (d == c)) (numbers_from (n + 1) xs))) fails);
+    })
+    (cases_Bool (p n))
+
+-- where none of the numbers passes, none is found
+pub none_popped : (p : ℕ → Bool) (cs : List ℕ) → filter p cs ≡ [] → find p cs ≡ None
+none_popped p [] h = refl
+none_popped p (c ∷ cs) h = ⊎_elim
+    (λ on. let bad : c ∷ filter p cs ≡ [] = sym (ap (λ b. cond b (c ∷ filter p cs) (filter p cs)) on) ∙ h in absurd cc)
+    (λ off. ap (λ b. cond b (Some c) (find p cs)) off ∙ none_popped p cs (sym (ap (λ b. cond b (c ∷ filter p cs) (filter p cs)) off) ∙ h))
+    (cases_Bool (p c))

@@ -5,6 +5,7 @@ mod ancestry;
 mod cell_list;
 mod cell_names;
 mod check;
+mod children;
 mod definers;
 mod fault;
 mod free;
@@ -12,6 +13,7 @@ mod graph;
 mod name_set;
 mod occurrences;
 mod order;
+mod waits;
 
 pub use cell_list::CellList;
 pub use cell_names::{defs, refs};
