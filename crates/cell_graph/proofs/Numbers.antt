@@ -108,7 +108,7 @@ without_below : {X : Type 0} (p : ℕ → Bool) (c n : ℕ) (xs : List X) → c 
 without_below p c n xs h = filter_within p (λ d. p d && not (d == c)) n xs (λ d low high. apart (p d) (d == c) (ne_eqb d c (λ e. omega arith)))
   where
     apart : (b e : Bool) → e ≡ false → b ≡ (b && not e)
-    apart true true off = sym off
+    apart true true off = off
     apart true false off = refl
     apart false e off = refl
 

@@ -2,16 +2,31 @@
 use Rattle.std.proofs.Common.{◌≡◌, ℕ, zero, suc, ◌+◌, ◌-◌, ◌<◌, ◌≤◌, Bool, true, false, cond, not, ◌&&◌, ◌||◌, ◌==◌, ⊎_elim, List, [], ◌∷◌, ◌++◌, length, get_or, set, get_or-set_same, get_or-set_other, take, replicate, refl, sym, ap, ◌∙◌, subst, arith}
 use Rattle.std.specs.Prelude.{nat_lt}
 use Rattle.std.specs.List.{list_any, list_all, All, count_by}
-use Rattle.std.proofs.lemmas.Bool.{both_ways, cases_Bool, cases_eq, cases_lt, cases_order, eq-eqb, eqb-true, ne_eqb, lt-ltb, le-ltb, or_cases, or_left, or_right, and_left, and_right, and_from}
+use Rattle.std.proofs.lemmas.Bool.{both_ways, cases_Bool, cases_eq, cases_lt, cases_order, eq-eqb, eqb-true, ne_eqb, lt-ltb, le-ltb, or_cases, or_left, or_right, and_left, and_right, and_from, or_parts, or_from, false_from_ne_true}
 use Rattle.std.proofs.lemmas.List.{take_more}
 use Rattle.std.proofs.lemmas.List.Folds.{list_any-append}
-use Rattle.std.proofs.lemmas.List.Sums.{count_by_more_yes, count_by_more_no, sum_by-take-le, sum_by_push}
+use Rattle.std.proofs.lemmas.List.Sums.{count_by_more_yes, count_by_more_no, sum_by-cons, sum_by-take-le, sum_by_push}
 use Rattle.notebook_meaning.specs.Graph.{is_in}
 use Rattle.cell_graph.specs.Counts.{list_in, count_of, unlisted, AreTurned}
 
 -- one cell more in a list
 pub count_push : (c d : ℕ) (cells : List ℕ) → count_of c (cells ++ d ∷ []) ≡ count_of c cells + cond (d == c) 1 0
 count_push c d cells = sum_by_push (λ x. cond (x == c) 1 0) cells d
+
+-- a cell is counted where it is in the list
+pub none_counted : (c : ℕ) (cells : List ℕ) → is_in c cells ≡ false → count_of c cells ≡ 0
+none_counted c [] off = refl
+none_counted c (d ∷ ds) off =
+    let parts = or_parts (d == c) (is_in c ds) off in
+    sum_by-cons (λ x. cond (x == c) 1 0) d ds ∙ (λ i. cond (parts.0 i) 1 0 + none_counted c ds parts.1 i)
+
+pub not_counted : (c : ℕ) (cells : List ℕ) → count_of c cells ≡ 0 → is_in c cells ≡ false
+not_counted c [] none = refl
+not_counted c (d ∷ ds) none =
+    let e : cond (d == c) 1 0 + count_of c ds ≡ 0 = sym (sum_by-cons (λ x. cond (x == c) 1 0) d ds) ∙ none in
+    or_from (d == c) (is_in c ds)
+    (false_from_ne_true (d == c) (λ on. let one : 1 + count_of c ds ≡ 0 = sym (ap (λ b. cond b 1 0 + count_of c ds) on) ∙ e in omega arith))
+    (not_counted c ds (omega arith))
 
 -- ---- children
 
@@ -38,7 +53,7 @@ pub parts_of : (b : Bool) (n m k : ℕ) → (n + cond b m 0) + cond b k 0 ≡ n 
 parts_of true n m k = omega arith
 parts_of false n m k = omega arith
 
-past_all : (lists : List (List ℕ)) (d : ℕ) → length lists ≤ d → list_in lists d ≡ []
+pub past_all : (lists : List (List ℕ)) (d : ℕ) → length lists ≤ d → list_in lists d ≡ []
 past_all [] d h = refl
 past_all (l ∷ ls) zero h = absurd (omega arith)
 past_all (l ∷ ls) (suc d) h = past_all ls d (omega arith)
@@ -73,10 +88,10 @@ counts_all above n a d h = ⊎_elim
 
 -- ---- cells that wait
 
-is_in_push : (c e : ℕ) (cells : List ℕ) → is_in c (cells ++ e ∷ []) ≡ (is_in c cells || ((e == c) || false))
+pub is_in_push : (c e : ℕ) (cells : List ℕ) → is_in c (cells ++ e ∷ []) ≡ (is_in c cells || ((e == c) || false))
 is_in_push c e cells = list_any-append (λ d. d == c) cells (e ∷ [])
 
-or_false : (b : Bool) → (b || false) ≡ b
+pub or_false : (b : Bool) → (b || false) ≡ b
 or_false true = refl
 or_false false = refl
 

@@ -6,8 +6,14 @@ use Rattle.py_tree.specs.View.{view_cell, view_cells}
 use Rattle.notebook_meaning.specs.Graph.{order}
 use Rattle.notebook_meaning.proofs.Orders.{full_is_free, short_is_cyclic}
 use Rattle.cell_graph.specs.Kept.{AreParents}
+use Rattle.cell_graph.specs.Counts.{AreWithin}
 use Rattle.cell_graph.proofs.Places.{order_fits}
+use Rattle.cell_graph.proofs.Sweeps.{parents_within}
 use Rattle.cell_graph.proofs.check.notebook.Goals as goal
+
+pub order_of-requires-clause-within : goal.order_of-requires-clause-within
+order_of-requires-clause-within c =
+    subst (λ (ls : List (List ℕ)). AreWithin ls) (sym c.as_slice-4.ensures.value) (parents_within _ c.in_ok-above.above.items c.in_ok-above.ensures.parents)
 
 pub returns-then-len-clause-refused : goal.returns-then-len-clause-refused
 returns-then-len-clause-refused c =
