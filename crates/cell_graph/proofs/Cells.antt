@@ -1,17 +1,17 @@
 -- Lists of the names that cells define, and the graph of these cells.
-use Rattle.std.proofs.Common.{◌≡◌, ℕ, zero, suc, ◌+◌, ◌<◌, ◌≤◌, Bool, true, false, cond, ◌&&◌, ◌||◌, ⊎_elim, List, [], ◌∷◌, ◌++◌, length, map, filter, find, Option, Some, None, slice_get, get_or, refl, sym, ap, ◌∙◌, subst, arith}
+use Rattle.std.proofs.Common.{◌≡◌, ℕ, zero, suc, ◌+◌, ◌<◌, ◌≤◌, Bool, true, false, cond, ◌&&◌, ⊎_elim, List, [], ◌∷◌, ◌++◌, length, map, filter, find, Option, Some, None, slice_get, get_or, refl, sym, ap, ◌∙◌, subst, arith}
 use Rattle.std.specs.Prelude.{nat_lt}
 use Rattle.std.specs.Option.{unwrap_or}
 use Rattle.std.specs.List.{list_any}
 use Rattle.std.specs.Str.{bytes_eq}
-use Rattle.std.proofs.lemmas.Bool.{both_ways, cases_Bool, cases_lt, eq-eqb, cases_eq, and_parts, and_from, or_cases, or_left, or_right, false_from_ne_true, lt-ltb, ltb-true}
+use Rattle.std.proofs.lemmas.Bool.{both_ways, cases_Bool, cases_lt, cases_eq, and_parts, and_from, or_cases, or_left, or_right, false_from_ne_true, lt-ltb, ltb-true}
 use Rattle.std.proofs.lemmas.List.{length-map}
 use Rattle.std.proofs.lemmas.Option.{slice_get-get_or, slice_get_past}
 use Rattle.std.proofs.lemmas.Slice.Eq.{bytes_eq-Decides}
 use Rattle.py_tree.specs.Names.{Name, is_among}
 use Rattle.py_tree.specs.Scope.{defs, refs}
 use Rattle.py_tree.specs.Trees.{Cell}
-use Rattle.notebook_meaning.specs.Graph.{names_at, defs_of, refs_of, numbers_from, all_cells, parents, defined_before, name_again, NoneDoubled}
+use Rattle.notebook_meaning.specs.Graph.{names_at, defs_of, refs_of, numbers_from, all_cells, parents, defined_before, NoneDoubled}
 use Rattle.cell_graph.specs.Definers.{names_in, FindsLists, IsInTwo, IsCauseIn, lists_with}
 use Rattle.cell_graph.specs.Kept.{AreDefs, AreParents}
 use Rattle.cell_graph.specs.Refused.{IsCauseOf}
@@ -96,8 +96,8 @@ module _ (nb : List Cell) (defined : List (List Name)) (kept : AreDefs nb define
   are_parents = record {
     count = length-map nb (λ (c : Cell). lists_with defined (refs c));
     each = λ c cells h.
-      let p = map_at (λ (d : Cell). lists_with defined (refs d)) nb c cells h in
-      sym p.2 ∙ ap (lists_with defined) (ap (names_at refs) (sym p.1)) ∙ same_parents c;
+        let p = map_at (λ (d : Cell). lists_with defined (refs d)) nb c cells h in
+        sym p.2 ∙ ap (lists_with defined) (ap (names_at refs) (sym p.1)) ∙ same_parents c;
   }
 
   -- a look-up of the definitions: no name is defined in two cells
@@ -126,7 +126,7 @@ module _ (nb : List Cell) (defined : List (List Name)) (kept : AreDefs nb define
       let in_b : is_among x (defs_of nb b) ≡ true = sym (ap (is_among x) (same_names b)) ∙ two.5 in
       let low : a < length defined = within defined x a two.4 in
       let before : defined_before nb b x ≡ true =
-          numbered (λ d. nat_lt d b && is_among x (defs_of nb d)) 0 nb a (omega arith) (omega (arith, low, kept.count)) (and_from _ _ (lt-ltb a b two.3) in_a) in
+      numbered (λ d. nat_lt d b && is_among x (defs_of nb d)) 0 nb a (omega arith) (omega (arith, low, kept.count)) (and_from _ _ (lt-ltb a b two.3) in_a) in
       found (defined_before nb b) (defs_of nb b) x in_b before (once b)
 
   pub same_cause : (e : GraphFault) → IsCauseIn e defined → IsCauseOf e nb

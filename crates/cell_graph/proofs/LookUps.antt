@@ -1,11 +1,10 @@
 -- Look-ups that find the list in which a name stands.
-use Rattle.std.proofs.Common.{◌≡◌, ℕ, zero, suc, ◌+◌, ◌<◌, ◌≤◌, Bool, true, false, cond, ◌||◌, ◌==◌, ◌⊎◌, inl, inr, ⊎_elim, List, [], ◌∷◌, ◌++◌, length, get_or, take, filter, map, Option, Some, None, slice_get, refl, sym, ap, ◌∙◌, subst, arith}
+use Rattle.std.proofs.Common.{◌≡◌, ℕ, zero, suc, ◌<◌, ◌≤◌, Bool, true, false, cond, ◌||◌, ◌==◌, ◌⊎◌, inl, inr, ⊎_elim, List, [], ◌∷◌, ◌++◌, length, get_or, take, Option, Some, None, refl, sym, ap, ◌∙◌, arith}
 use Rattle.std.specs.BTreeSet.{insert_key}
-use Rattle.std.specs.Option.{unwrap_or}
 use Rattle.std.specs.Ordering.{nat_cmp}
 use Rattle.std.specs.List.{list_any}
 use Rattle.std.specs.Str.{bytes_eq}
-use Rattle.std.proofs.lemmas.Bool.{both_ways, cases_Bool, cases_eq, cases_lt, cases_order, eq-eqb, eqb-true, ne_eqb, or_cases, or_left, or_right, false_from_ne_true}
+use Rattle.std.proofs.lemmas.Bool.{both_ways, cases_Bool, cases_lt, cases_order, eq-eqb, ne_eqb, or_cases, or_left, or_right, false_from_ne_true}
 use Rattle.std.proofs.lemmas.List.Folds.{list_any-append, list_any_at}
 use Rattle.std.proofs.lemmas.Slice.Eq.{bytes_eq-Decides}
 use Rattle.py_tree.specs.Names.{Name, is_among}
@@ -93,7 +92,7 @@ module _ (lists : List (List Name)) (names : List Name) (x : Name) (at : Name �
   was q a h = ⊎_elim
       (λ here.
       let among : (is_among q names || (bytes_eq x q || false)) ≡ true =
-          sym (among_last x q names) ∙ sym (ap (is_among q) (ap (names_in new) here ∙ in_last lists (names ++ x ∷ []))) ∙ h in
+      sym (among_last x q names) ∙ sym (ap (is_among q) (ap (names_in new) here ∙ in_last lists (names ++ x ∷ []))) ∙ h in
       ⊎_elim
       (λ before. inl (ap (is_among q) (ap (names_in old) here ∙ in_last lists names) ∙ before))
       (λ now. ⊎_elim (λ e. inr (e, here)) (λ off. absurd (both_ways false refl off)) (or_cases (bytes_eq x q) false now))
@@ -108,9 +107,9 @@ module _ (lists : List (List Name)) (names : List Name) (x : Name) (at : Name �
   one_name f free = record {
     stands = λ q a h. by (bytes_eq x q) q refl a h;
     finds = λ q a h. ⊎_elim
-      (λ before. kept q a (f.finds q a before))
-      (λ now. ap (λ b. cond b (Some (length lists)) (at q)) now.0 ∙ ap Some (sym now.1))
-      (was q a h);
+        (λ before. kept q a (f.finds q a before))
+        (λ now. ap (λ b. cond b (Some (length lists)) (at q)) now.0 ∙ ap Some (sym now.1))
+        (was q a h);
   }
     where
       by : (b : Bool) (q : Name) → bytes_eq x q ≡ b → (a : ℕ) → cond b (Some (length lists)) (at q) ≡ Some a → is_among q (names_in new a) ≡ true

@@ -1,13 +1,11 @@
 -- Lists of numbers one after the other, and sets of some of them.
-use Rattle.std.proofs.Common.{◌≡◌, ℕ, zero, suc, ◌+◌, ◌<◌, ◌≤◌, Bool, true, false, cond, not, ◌&&◌, ◌||◌, ◌==◌, ◌⊎◌, inl, inr, ⊎_elim, List, [], ◌∷◌, ◌++◌, length, filter, find, Option, Some, None, slice_get, refl, sym, ap, ◌∙◌, subst, arith}
+use Rattle.std.proofs.Common.{◌≡◌, ℕ, ◌+◌, ◌<◌, ◌≤◌, Bool, true, false, cond, not, ◌&&◌, ◌||◌, ◌==◌, ⊎_elim, List, [], ◌∷◌, length, filter, find, Some, None, refl, sym, ap, ◌∙◌, arith}
 use Rattle.std.specs.BTreeSet.{insert_key}
 use Rattle.std.specs.Cmp.{nat_cmp_is}
-use Rattle.std.specs.List.{list_any}
 use Rattle.std.specs.Ordering.{nat_cmp, match_ordering}
-use Rattle.std.specs.declared.cmp.Ordering.{Ordering}
 use Rattle.std.specs.declared.cmp.Ordering.TheVariants.{Less, Equal, Greater}
-use Rattle.std.proofs.lemmas.Bool.{both_ways, cases_Bool, cases_eq, cases_order, eq-eqb, eqb-true, ne_eqb, or_cases, or_left, or_right, and_left, and_right, false_from_ne_true}
-use Rattle.notebook_meaning.specs.Graph.{numbers_from, is_in}
+use Rattle.std.proofs.lemmas.Bool.{both_ways, cases_Bool, cases_eq, eq-eqb, ne_eqb, and_left, and_right}
+use Rattle.notebook_meaning.specs.Graph.{numbers_from}
 
 -- as many numbers for lists of the same length
 pub numbers_alike : {X Y : Type 0} (n : ℕ) (xs : List X) (ys : List Y) → length xs ≡ length ys → numbers_from n xs ≡ numbers_from n ys
@@ -126,7 +124,7 @@ popped p n (x ∷ xs) c rest h = ⊎_elim
       low = omega arith;
       high = omega arith;
       others = sym tail ∙ without_below p c (n + 1) xs (omega arith)
-        ∙ sym (ap (λ b. cond b (n ∷ filter (λ d. p d && not (d == c)) (numbers_from (n + 1) xs)) (filter (λ d. p d && not (d == c)) (numbers_from (n + 1) xs))) itself);
+          ∙ sym (ap (λ b. cond b (n ∷ filter (λ d. p d && not (d == c)) (numbers_from (n + 1) xs)) (filter (λ d. p d && not (d == c)) (numbers_from (n + 1) xs))) itself);
     })
     (λ off.
     let e : filter p (numbers_from (n + 1) xs) ≡ c ∷ rest = sym (ap (λ b. cond b (n ∷ filter p (numbers_from (n + 1) xs)) (filter p (numbers_from (n + 1) xs))) off) ∙ h in

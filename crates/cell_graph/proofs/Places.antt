@@ -1,5 +1,5 @@
 -- The first places of the order of cells.
-use Rattle.std.proofs.Common.{◌≡◌, ℕ, zero, suc, ◌+◌, ◌<◌, ◌≤◌, List, [], ◌∷◌, ◌++◌, length, Option, Some, None, sym, arith}
+use Rattle.std.proofs.Common.{ℕ, zero, suc, ◌+◌, ◌≤◌, List, length, Option, Some, None, arith}
 use Rattle.std.proofs.lemmas.List.{length_push}
 use Rattle.py_tree.specs.Trees.{Cell}
 use Rattle.notebook_meaning.specs.Graph.{places, next_cell, with_next, order}

@@ -1,7 +1,7 @@
 -- The cells that are listed, the counts of parents that aren't, and the cells that are ready.
-use Rattle.std.proofs.Common.{◌≡◌, ℕ, zero, suc, ◌+◌, ◌<◌, ◌≤◌, Bool, true, false, cond, not, ◌&&◌, ◌||◌, ◌==◌, ⊎_elim, List, [], ◌∷◌, ◌++◌, length, get_or, take, map, filter, find, Option, Some, None, refl, sym, ap, ◌∙◌, subst, add-one, arith}
-use Rattle.std.specs.List.{list_any, list_all, All, sum_by, count_by}
-use Rattle.std.proofs.lemmas.Bool.{both_ways, cases_Bool, cases_eq, cases_lt, eq-eqb, eqb-true, eqb-false, ne_eqb, and_parts, and_left, and_right, or_cases, or_left, or_right, or_from, and_from, not-true, not_from_true, not_from_false}
+use Rattle.std.proofs.Common.{◌≡◌, ℕ, zero, suc, ◌+◌, ◌<◌, ◌≤◌, Bool, true, false, cond, not, ◌&&◌, ◌||◌, ◌==◌, ⊎_elim, List, [], ◌∷◌, ◌++◌, length, get_or, map, filter, find, refl, sym, ap, ◌∙◌, subst, add-one, arith}
+use Rattle.std.specs.List.{list_all, All}
+use Rattle.std.proofs.lemmas.Bool.{both_ways, cases_Bool, cases_eq, cases_lt, eq-eqb, eqb-true, ne_eqb, and_parts, and_left, and_right, or_cases, or_left, or_right, or_from, and_from, not-true, not_from_true, not_from_false}
 use Rattle.std.proofs.lemmas.List.{length-map, get_or_default}
 use Rattle.std.proofs.lemmas.List.Elements.{All-filter}
 use Rattle.std.proofs.lemmas.List.Folds.{sum_by-zero}
@@ -197,18 +197,18 @@ module _ (above : List (List ℕ)) (listed waits ready : List ℕ) (s : IsSwept 
       swept_more now size r = record {
         count = size ∙ s.count;
         waiting = λ d.
-          let h = less d in
-          let same = turned.each c d in
-          let more = listed_more c listed (list_in above d) absent in
-          let was = s.waiting d in
-          omega arith;
+            let h = less d in
+            let same = turned.each c d in
+            let more = listed_more c listed (list_in above d) absent in
+            let was = s.waiting d in
+            omega arith;
         done = λ d h. ⊎_elim
-          (λ before. none_left d (s.done d before))
-          (λ later. ⊎_elim
-          (λ e. none_left d (ap (λ x. get_or waits x 0) (sym (eqb-true c d e)) ∙ waits_none))
-          (λ off. absurd (both_ways false refl off))
-          (or_cases (c == d) false later))
-          (or_cases (is_in d listed) _ (sym (is_in_push d c listed) ∙ h));
+            (λ before. none_left d (s.done d before))
+            (λ later. ⊎_elim
+            (λ e. none_left d (ap (λ x. get_or waits x 0) (sym (eqb-true c d e)) ∙ waits_none))
+            (λ off. absurd (both_ways false refl off))
+            (or_cases (c == d) false later))
+            (or_cases (is_in d listed) _ (sym (is_in_push d c listed) ∙ h));
         free = r ∙ ap (filter (λ d. kept_free d || freed_now d)) (numbers_alike 0 waits above s.count) ∙ filter_alike _ _ same_free (numbers_from 0 above);
       }
 

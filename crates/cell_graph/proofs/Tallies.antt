@@ -1,13 +1,12 @@
 -- Counts in lists of cells.
-use Rattle.std.proofs.Common.{◌≡◌, ℕ, zero, suc, ◌+◌, ◌-◌, ◌<◌, ◌≤◌, Bool, true, false, cond, not, ◌&&◌, ◌||◌, ◌==◌, ⊎_elim, List, [], ◌∷◌, ◌++◌, length, get_or, set, get_or-set_same, get_or-set_other, take, replicate, refl, sym, ap, ◌∙◌, subst, arith}
+use Rattle.std.proofs.Common.{◌≡◌, ℕ, zero, suc, ◌+◌, ◌-◌, ◌<◌, ◌≤◌, Bool, true, false, cond, ◌&&◌, ◌||◌, ◌==◌, ⊎_elim, List, [], ◌∷◌, ◌++◌, length, get_or, set, get_or-set_same, get_or-set_other, take, refl, sym, ap, ◌∙◌, subst, arith}
 use Rattle.std.specs.Prelude.{nat_lt}
-use Rattle.std.specs.List.{list_any, list_all, All, count_by}
-use Rattle.std.proofs.lemmas.Bool.{both_ways, cases_Bool, cases_eq, cases_lt, cases_order, eq-eqb, eqb-true, ne_eqb, lt-ltb, le-ltb, or_cases, or_left, or_right, and_left, and_right, and_from, or_parts, or_from, false_from_ne_true}
+use Rattle.std.proofs.lemmas.Bool.{both_ways, cases_eq, cases_lt, cases_order, eq-eqb, ne_eqb, lt-ltb, le-ltb, or_left, or_right, and_right, and_from, or_parts, or_from, false_from_ne_true}
 use Rattle.std.proofs.lemmas.List.{take_more}
 use Rattle.std.proofs.lemmas.List.Folds.{list_any-append}
 use Rattle.std.proofs.lemmas.List.Sums.{count_by_more_yes, count_by_more_no, sum_by-cons, sum_by-take-le, sum_by_push}
 use Rattle.notebook_meaning.specs.Graph.{is_in}
-use Rattle.cell_graph.specs.Counts.{list_in, count_of, unlisted, AreTurned}
+use Rattle.cell_graph.specs.Counts.{list_in, count_of}
 
 -- one cell more in a list
 pub count_push : (c d : ℕ) (cells : List ℕ) → count_of c (cells ++ d ∷ []) ≡ count_of c cells + cond (d == c) 1 0

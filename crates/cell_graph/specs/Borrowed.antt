@@ -1,5 +1,5 @@
 -- Names that code borrows.
-use Rattle.std.specs.Prelude.{ℕ, List, map}
+use Rattle.std.specs.Prelude.{List, map}
 use Rattle.std.specs.Borrow.{Bor}
 use Rattle.py_tree.specs.Names.{Name}
 

@@ -1,5 +1,5 @@
 -- Cells in lists of cells, counted.
-use Rattle.std.specs.Prelude.{◌≡◌, ℕ, ◌<◌, ◌==◌, Bool, not, List, [], length, slice_get, Some, slice_index_or}
+use Rattle.std.specs.Prelude.{◌≡◌, ℕ, ◌<◌, ◌==◌, not, List, [], length, slice_index_or}
 use Rattle.std.specs.List.{All, count_by}
 use Rattle.notebook_meaning.specs.Graph.{is_in}
 

@@ -24,7 +24,11 @@ pub(crate) fn order_of(alloc: Global, above: &[CellList]) -> Result<Vec<u32>, Me
     for _ in 0..above.len() {
         if let Some(cell) = ready.pop_first() {
             listed.push(cell)?;
-            release(waits.as_mut_slice(), &mut ready, below[cell as usize].items())?;
+            release(
+                waits.as_mut_slice(),
+                &mut ready,
+                below[cell as usize].items(),
+            )?;
         }
     }
     Ok(listed)

@@ -35,7 +35,11 @@ pub(crate) fn unheld(alloc: Global, waits: &[usize]) -> Result<BTreeSet<u32>, Me
 }
 
 // Takes a listed parent away from these cells. Those that wait for none then are ready.
-pub(crate) fn release(waits: &mut [usize], ready: &mut BTreeSet<u32>, children: &[u32]) -> Result<(), Memory>
+pub(crate) fn release(
+    waits: &mut [usize],
+    ready: &mut BTreeSet<u32>,
+    children: &[u32],
+) -> Result<(), Memory>
     requires within { All (λ c. c < length waits.old) children.now }
     requires held { (c : ℕ) → count_of c children.now ≤ slice_index waits.old c }
     ensures waits { OnOk result ((c : ℕ) → slice_index waits.new c + count_of c children.now ≡ slice_index waits.old c) }

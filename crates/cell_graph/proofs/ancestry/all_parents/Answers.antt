@@ -1,8 +1,7 @@
 -- What the table says of the lists of definitions, it says of the cells.
-use Rattle.std.proofs.Common.{◌≡◌, ◌+◌, ◌≤◌, List, ℕ, [], ◌∷◌, ◌++◌, map, take, length, sym, ap, ◌∙◌, subst}
+use Rattle.std.proofs.Common.{◌≡◌, ◌+◌, List, ℕ, [], ◌∷◌, ◌++◌, map, take, sym, ap, ◌∙◌, subst}
 use Rattle.std.proofs.lemmas.List.{take_more, take_all}
 use Rattle.std.proofs.lemmas.Result.{err_from_is_err_and}
-use Rattle.py_tree.specs.Names.{Name}
 use Rattle.py_tree.specs.Scope.{refs}
 use Rattle.py_tree.specs.Trees.{Cell}
 use Rattle.py_tree.specs.View.{view_cell, view_cells}
@@ -25,7 +24,7 @@ loop-cell-preserved c =
     let found = c.in_ok-parents_of.ensures c.args.defined.now c.in_ok-table.ensures.finds in
     let named = c.items.ensures ∙ c.in_ok-names.ensures in
     let more : take (c.loop-cell.cell-index + 1) c.args.cells.now ≡ cells ++ cell ∷ [] =
-        take_more c.args.cells.now c.loop-cell.cell-index cell c.loop-cell-test.true ∙ ap (λ d. cells ++ d ∷ []) (sym c.cell-item.is) in
+    take_more c.args.cells.now c.loop-cell.cell-index cell c.loop-cell-test.true ∙ ap (λ d. cells ++ d ∷ []) (sym c.cell-item.is) in
     c.in_ok-push.ensures.items ∙ ap (λ ps. ps ++ c.in_ok-parents_of.field-0 ∷ []) c.loop-cell.invariant
     ∙ ap (λ ps. map f (view_cells cells) ++ ps ∷ []) (found ∙ ap (lists_with c.args.defined.now) named)
     ∙ sym (map_push f view_cell cells cell) ∙ ap (λ ds. map f (view_cells ds)) (sym more)

@@ -1,5 +1,5 @@
 -- A name that stands in no list adds none, and another adds its own.
-use Rattle.std.proofs.Common.{◌≡◌, ℕ, ◌+◌, List, [], ◌∷◌, ◌++◌, take, Some, None, refl, sym, ap, ◌∙◌, nat_cmp, BTreeSet}
+use Rattle.std.proofs.Common.{◌≡◌, ℕ, ◌+◌, List, [], ◌∷◌, ◌++◌, take, refl, sym, ap, ◌∙◌, nat_cmp, BTreeSet}
 use Rattle.std.specs.BTreeSet.{insert_key}
 use Rattle.std.proofs.lemmas.List.{take_more}
 use Rattle.py_tree.specs.Names.{Name}
@@ -19,15 +19,15 @@ loop-name-preserved c lists f =
     let names : List Name = take c.loop-name.name-index c.args.names.now in
     let table = c.args.table.now in
     let more : take (c.loop-name.name-index + 1) c.args.names.now ≡ names ++ x ∷ [] =
-        take_more c.args.names.now c.loop-name.name-index x c.loop-name-test.true ∙ ap (λ y. names ++ y ∷ []) (sym c.name-item.is) in
+    take_more c.args.names.now c.loop-name.name-index x c.loop-name-test.true ∙ ap (λ y. names ++ y ∷ []) (sym c.name-item.is) in
     let asked : list_at table x ≡ list_at table c.items.result.now = ap (list_at table) (sym c.items.ensures) in
     elim c.match-get.branch [
-      in-Some+in_ok-insert w ↦
-        ap (λ (s : BTreeSet ℕ). s.keys) w.cells-is ∙ w.in_ok-insert.ensures.keys
-        ∙ ap (λ ks. insert_key nat_cmp ks w.in-Some.cell.now) (c.loop-name.invariant lists f)
-        ∙ with_one lists (list_at table) f names x w.in-Some.cell.now (asked ∙ sym w.in-Some.ensures.value)
-        ∙ ap (lists_with lists) (sym more)
-    | in_default w ↦
-        ap (λ (s : BTreeSet ℕ). s.keys) w.cells-is ∙ c.loop-name.invariant lists f
-        ∙ with_none lists (list_at table) f names x (asked ∙ sym w.in_default.ensures.value) ∙ ap (lists_with lists) (sym more)
+      | in-Some+in_ok-insert w ↦
+          ap (λ (s : BTreeSet ℕ). s.keys) w.cells-is ∙ w.in_ok-insert.ensures.keys
+          ∙ ap (λ ks. insert_key nat_cmp ks w.in-Some.cell.now) (c.loop-name.invariant lists f)
+          ∙ with_one lists (list_at table) f names x w.in-Some.cell.now (asked ∙ sym w.in-Some.ensures.value)
+          ∙ ap (lists_with lists) (sym more)
+      | in_default w ↦
+          ap (λ (s : BTreeSet ℕ). s.keys) w.cells-is ∙ c.loop-name.invariant lists f
+          ∙ with_none lists (list_at table) f names x (asked ∙ sym w.in_default.ensures.value) ∙ ap (lists_with lists) (sym more)
     ]

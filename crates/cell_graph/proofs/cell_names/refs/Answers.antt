@@ -1,5 +1,5 @@
 -- The kept names are those that are free.
-use Rattle.std.proofs.Common.{◌≡◌, ◌++◌, ◌∙◌, sym, ap, subst, filter, not, ◌||◌, rules, Bool, List, Bor, IfOk}
+use Rattle.std.proofs.Common.{◌≡◌, ◌++◌, ◌∙◌, ap, subst, filter, not, ◌||◌, rules, Bool, Bor, IfOk}
 use Rattle.std.proofs.lemmas.Fn.{filter_same}
 use Rattle.py_tree.specs.Names.{Name, first_seen, is_among, is_local, builtins}
 use Rattle.py_tree.specs.Scope as scope

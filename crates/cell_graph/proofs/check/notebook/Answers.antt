@@ -1,11 +1,10 @@
 -- A full order leaves no cycle, and a short one leaves some.
-use Rattle.std.proofs.Common.{◌≡◌, ◌<◌, List, ℕ, length, map, sym, ap, ◌∙◌, subst, arith}
+use Rattle.std.proofs.Common.{◌≡◌, ◌<◌, List, ℕ, length, sym, ap, subst, arith}
 use Rattle.std.proofs.lemmas.List.{length-map}
 use Rattle.py_tree.specs.Trees.{Cell}
 use Rattle.py_tree.specs.View.{view_cell, view_cells}
 use Rattle.notebook_meaning.specs.Graph.{order}
 use Rattle.notebook_meaning.proofs.Orders.{full_is_free, short_is_cyclic}
-use Rattle.cell_graph.specs.Kept.{AreParents}
 use Rattle.cell_graph.specs.Counts.{AreWithin}
 use Rattle.cell_graph.proofs.Places.{order_fits}
 use Rattle.cell_graph.proofs.Sweeps.{parents_within}

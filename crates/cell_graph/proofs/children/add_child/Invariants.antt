@@ -1,5 +1,5 @@
 -- the child is added to the parents so far
-use Rattle.std.proofs.Common.{◌≡◌, ℕ, ◌+◌, ◌==◌, cond, take, length}
+use Rattle.std.proofs.Common.{◌≡◌, ℕ, ◌+◌, ◌==◌, cond, take}
 use Rattle.cell_graph.specs.Counts.{list_in, count_of}
 use Rattle.cell_graph.proofs.children.add_child.Given as goal
 

@@ -14,7 +14,7 @@ returns-in_err-add_definitions-clause-refused c =
     let long : length (take n defined) ≡ n = length-take-le n defined (omega arith) in
     let cause = c.in_err-add_definitions.ensures.refused (take n defined) long c.loop-cell.invariant in
     let more : take n defined ++ c.items.result.now ∷ [] ≡ take (n + 1) defined =
-        ap (λ (y : List Name). take n defined ++ y ∷ []) (c.items.ensures ∙ c.index-defined-cell.is)
-        ∙ sym (take_more defined n c.index-defined-cell.result c.loop-cell-test.true) in
+    ap (λ (y : List Name). take n defined ++ y ∷ []) (c.items.ensures ∙ c.index-defined-cell.is)
+    ∙ sym (take_more defined n c.index-defined-cell.result c.loop-cell-test.true) in
     let p = err_from_is_err_and c.from_residual.result c.from_residual.ensures.1 in
     rw (p.1, p.2) (cause_of_first c.in_err-add_definitions.field-0.0 defined (n + 1) (subst (IsCauseIn c.in_err-add_definitions.field-0.0) more cause))

@@ -1,5 +1,5 @@
 -- the counts of the cells so far
-use Rattle.std.proofs.Common.{◌≡◌, ℕ, List, length, map, take}
+use Rattle.std.proofs.Common.{◌≡◌, ℕ, length, map, take}
 use Rattle.cell_graph.proofs.waits.parent_counts.Given as goal
 
 abbrev pub invariant-loop-parents : goal.invariant-loop-parents

@@ -1,9 +1,8 @@
 -- A child waits for one less, and is ready where it waits for none.
-use Rattle.std.proofs.Common.{◌≡◌, ℕ, ◌+◌, ◌-◌, ◌<◌, ◌≤◌, ◌&&◌, ◌||◌, ◌==◌, Bool, true, false, List, length, get_or, take, filter, refl, sym, ap, ◌∙◌, subst, nat_cmp, BTreeSet, arith}
+use Rattle.std.proofs.Common.{ℕ, ◌<◌, ◌≤◌, ◌&&◌, ◌||◌, ◌==◌, List, length, get_or, take, refl, ap, ◌∙◌, nat_cmp, BTreeSet, arith}
 use Rattle.std.specs.BTreeSet.{insert_key}
 use Rattle.std.proofs.lemmas.Bool.{eq-eqb, ne_eqb}
 use Rattle.notebook_meaning.specs.Graph.{numbers_from, is_in}
-use Rattle.cell_graph.specs.Counts.{count_of}
 use Rattle.cell_graph.proofs.Tallies.{still_held, counted, freed, held_still}
 use Rattle.cell_graph.proofs.Names.{filter_alike}
 use Rattle.cell_graph.proofs.Numbers.{inserted}
@@ -27,13 +26,13 @@ loop-child-preserved c =
     record {
       waits = λ q. counted waits children i e lt refl there least q ∙ c.loop-child.invariant.waits q;
       ready = λ p h. elim c.if-waits-child-eq0.branch [
-        then-waits-child-eq0+in_ok-insert w ↦
-          ap (λ (s : BTreeSet ℕ). s.keys) w.ready-is ∙ w.in_ok-insert.ensures.keys
-          ∙ ap (λ ks. insert_key nat_cmp ks e) (c.loop-child.invariant.ready p h)
-          ∙ inserted (λ q. p q || (is_in q (take i children) && (get_or waits q 0 == 0))) e 0 before (omega arith) (omega arith)
-          ∙ filter_alike _ _ (freed waits children i e lt refl there least p (eq-eqb _ 0 w.if-waits-child-eq0.true)) (numbers_from 0 before)
-      | else-waits-child-eq0 w ↦
-          ap (λ (s : BTreeSet ℕ). s.keys) w.ready-is ∙ c.loop-child.invariant.ready p h
-          ∙ filter_alike _ _ (held_still waits children i e lt refl there least p (ne_eqb _ 0 w.if-waits-child-eq0.false)) (numbers_from 0 before)
+        | then-waits-child-eq0+in_ok-insert w ↦
+            ap (λ (s : BTreeSet ℕ). s.keys) w.ready-is ∙ w.in_ok-insert.ensures.keys
+            ∙ ap (λ ks. insert_key nat_cmp ks e) (c.loop-child.invariant.ready p h)
+            ∙ inserted (λ q. p q || (is_in q (take i children) && (get_or waits q 0 == 0))) e 0 before (omega arith) (omega arith)
+            ∙ filter_alike _ _ (freed waits children i e lt refl there least p (eq-eqb _ 0 w.if-waits-child-eq0.true)) (numbers_from 0 before)
+        | else-waits-child-eq0 w ↦
+            ap (λ (s : BTreeSet ℕ). s.keys) w.ready-is ∙ c.loop-child.invariant.ready p h
+            ∙ filter_alike _ _ (held_still waits children i e lt refl there least p (ne_eqb _ 0 w.if-waits-child-eq0.false)) (numbers_from 0 before)
       ];
     }

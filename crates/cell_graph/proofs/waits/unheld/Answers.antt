@@ -1,5 +1,5 @@
 -- A cell more waits for none, or waits for some.
-use Rattle.std.proofs.Common.{◌≡◌, ℕ, ◌+◌, ◌<◌, ◌&&◌, ◌||◌, ◌==◌, Bool, true, false, List, length, get_or, filter, refl, sym, ap, ◌∙◌, nat_cmp, BTreeSet, arith}
+use Rattle.std.proofs.Common.{ℕ, ◌&&◌, ◌==◌, List, get_or, sym, ap, ◌∙◌, nat_cmp, BTreeSet, arith}
 use Rattle.std.specs.Prelude.{nat_lt}
 use Rattle.std.specs.BTreeSet.{insert_key}
 use Rattle.std.proofs.lemmas.Bool.{eq-eqb, ne_eqb, and_left, lt-ltb, le-ltb}
@@ -20,14 +20,14 @@ loop-cell-preserved c =
     let waits : List ℕ = c.args.waits.now in
     let cell = c.loop-cell.cell in
     elim c.if-waits-cell-eq0.branch [
-      then-waits-cell-eq0+in_ok-insert w ↦
-        ap (λ (s : BTreeSet ℕ). s.keys) w.ready-is ∙ w.in_ok-insert.ensures.keys
-        ∙ ap (λ ks. insert_key nat_cmp ks cell) c.loop-cell.invariant
-        ∙ inserted (λ q. nat_lt q cell && (get_or waits q 0 == 0)) cell 0 waits (omega arith) (omega arith)
-        ∙ filter_alike _ _ (unheld_here waits cell (eq-eqb _ 0 w.if-waits-cell-eq0.true)) (numbers_from 0 waits)
-    | else-waits-cell-eq0 w ↦
-        ap (λ (s : BTreeSet ℕ). s.keys) w.ready-is ∙ c.loop-cell.invariant
-        ∙ filter_alike _ _ (unheld_later waits cell (ne_eqb _ 0 w.if-waits-cell-eq0.false)) (numbers_from 0 waits)
+      | then-waits-cell-eq0+in_ok-insert w ↦
+          ap (λ (s : BTreeSet ℕ). s.keys) w.ready-is ∙ w.in_ok-insert.ensures.keys
+          ∙ ap (λ ks. insert_key nat_cmp ks cell) c.loop-cell.invariant
+          ∙ inserted (λ q. nat_lt q cell && (get_or waits q 0 == 0)) cell 0 waits (omega arith) (omega arith)
+          ∙ filter_alike _ _ (unheld_here waits cell (eq-eqb _ 0 w.if-waits-cell-eq0.true)) (numbers_from 0 waits)
+      | else-waits-cell-eq0 w ↦
+          ap (λ (s : BTreeSet ℕ). s.keys) w.ready-is ∙ c.loop-cell.invariant
+          ∙ filter_alike _ _ (unheld_later waits cell (ne_eqb _ 0 w.if-waits-cell-eq0.false)) (numbers_from 0 waits)
     ]
 
 pub returns : goal.returns
