@@ -1,5 +1,5 @@
 -- What the code keeps of a notebook's cells.
-use Rattle.std.specs.Prelude.{◌≡◌, ℕ, ◌<◌, List, length, slice_get, Some}
+use Rattle.std.specs.Prelude.{◌≡◌, ℕ, List, length, slice_get, Some}
 use Rattle.py_tree.specs.Trees.{Cell}
 use Rattle.notebook_meaning.specs.Graph as graph
 

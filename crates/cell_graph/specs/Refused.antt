@@ -1,7 +1,7 @@
 -- Why cells are refused.
 use Rattle.std.specs.Prelude.{List}
-use Rattle.cell_graph.specs.declared.check.GraphFault.{GraphFault}
-use Rattle.cell_graph.specs.declared.check.GraphFault.TheVariants.{Doubly, Cycle, Memory}
+use Rattle.cell_graph.specs.declared.fault.GraphFault.{GraphFault}
+use Rattle.cell_graph.specs.declared.fault.GraphFault.TheVariants.{Doubly, Cycle, Memory}
 use Rattle.notebook_meaning.specs.Graph.{NoneDoubled, NoneCyclic}
 use Rattle.py_tree.specs.Trees.{Cell}
 

@@ -1,6 +1,7 @@
 // Lists of cells.
-ghost use Rattle.std.specs.Prelude.{◌≡◌};
+ghost use Rattle.std.specs.Prelude.{◌≡◌, ◌++◌, ◌∷◌, [], OnOk};
 
+use py_value::Memory;
 use std::marker::Model;
 
 /// Cells by their numbers, in order.
@@ -38,5 +39,13 @@ impl CellList {
     {
         let CellList { inner } = self;
         inner
+    }
+
+    // Adds a cell at the end.
+    pub(crate) fn push(&mut self, cell: u32) -> Result<(), Memory>
+        ensures { OnOk result (self.new ≡ self.old ++ cell ∷ []) }
+    {
+        self.inner.push(cell)?;
+        Ok(())
     }
 }

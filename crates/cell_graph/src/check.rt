@@ -1,23 +1,18 @@
-// The check of cells, and the two ways in which they are no notebook.
+// The check of cells.
 ghost use Rattle.std.specs.Prelude.{◌≡◌, ◌^◌, ◌<◌, IfOk, IfErr, length};
+ghost use Rattle.cell_graph.specs.Kept.{AreDefs};
 ghost use Rattle.cell_graph.specs.Refused.{IsCauseOf};
 ghost use Rattle.notebook_meaning.specs.Graph.{NoneDoubled, NoneCyclic};
 ghost use Rattle.py_tree.specs.View.{view_cells};
 
+use crate::ancestry::all_parents;
+use crate::cell_names::defs;
+use crate::fault::GraphFault;
 use crate::graph::Notebook;
+use crate::order::order_of;
 use py_tree::CellCode;
+use py_value::{Lines, Memory};
 use std::alloc::Global;
-
-/// Why cells are no notebook.
-#[derive(Clone, Copy, Debug, PartialEq, Eq)]
-pub enum GraphFault {
-    /// A name is defined in two cells.
-    Doubly,
-    /// No name is defined in two cells, and some cell lies on a cycle.
-    Cycle,
-    /// Memory was wanting.
-    Memory,
-}
 
 /// The notebook of these cells.
 pub fn notebook(alloc: Global, cells: Vec<CellCode>) -> Result<Notebook, GraphFault>
@@ -27,5 +22,27 @@ pub fn notebook(alloc: Global, cells: Vec<CellCode>) -> Result<Notebook, GraphFa
     ensures free { IfOk result (λ nb. NoneCyclic (view_cells cells.items)) }
     ensures refused { IfErr result (λ e. IsCauseOf e (view_cells cells.items)) }
 {
-    Err(GraphFault::Memory)
+    let defined = all_defs(alloc, cells.as_slice())?;
+    let above = all_parents(alloc, cells.as_slice(), defined.as_slice())?;
+    let ordered = order_of(alloc, above.as_slice())?;
+    if ordered.len() < cells.len() {
+        return Err(GraphFault::Cycle);
+    }
+    Ok(Notebook {
+        cells,
+        defined,
+        above,
+        ordered,
+    })
+}
+
+// The names that each cell defines.
+fn all_defs(alloc: Global, cells: &[CellCode]) -> Result<Vec<Lines>, Memory>
+    ensures { IfOk result (λ defined. AreDefs (view_cells cells.now) defined.items) }
+{
+    let mut defined = Vec::new(alloc);
+    for cell in cells {
+        defined.push(defs(alloc, cell)?)?;
+    }
+    Ok(defined)
 }

@@ -1,0 +1,191 @@
+-- Look-ups that find the list in which a name stands.
+use Rattle.std.proofs.Common.{◌≡◌, ℕ, zero, suc, ◌<◌, ◌≤◌, Bool, true, false, cond, ◌||◌, ◌==◌, ◌⊎◌, inl, inr, ⊎_elim, List, [], ◌∷◌, ◌++◌, length, get_or, take, Option, Some, None, refl, sym, ap, ◌∙◌, arith}
+use Rattle.std.specs.BTreeSet.{insert_key}
+use Rattle.std.specs.Ordering.{nat_cmp}
+use Rattle.std.specs.List.{list_any}
+use Rattle.std.specs.Str.{bytes_eq}
+use Rattle.std.proofs.lemmas.Bool.{both_ways, cases_Bool, cases_lt, cases_order, eq-eqb, ne_eqb, or_cases, or_left, or_right, false_from_ne_true}
+use Rattle.std.proofs.lemmas.List.Folds.{list_any-append, list_any_at}
+use Rattle.std.proofs.lemmas.Slice.Eq.{bytes_eq-Decides}
+use Rattle.py_tree.specs.Names.{Name, is_among}
+use Rattle.notebook_meaning.specs.Graph.{numbers_from}
+use Rattle.cell_graph.specs.Definers.{names_in, FindsLists, IsInTwo, IsCauseIn, lists_with}
+use Rattle.cell_graph.specs.declared.fault.GraphFault.{GraphFault}
+use Rattle.cell_graph.specs.declared.fault.GraphFault.TheVariants.{Doubly, Cycle, Memory}
+use Rattle.cell_graph.proofs.Names.{filter_alike}
+use Rattle.cell_graph.proofs.Numbers.{inserted}
+
+-- ---- one list more
+
+in_earlier : (lists : List (List Name)) (last : List Name) (a : ℕ) → a < length lists → names_in (lists ++ last ∷ []) a ≡ names_in lists a
+in_earlier [] last a h = absurd (omega arith)
+in_earlier (l ∷ ls) last zero h = refl
+in_earlier (l ∷ ls) last (suc a) h = in_earlier ls last a (omega arith)
+
+in_last : (lists : List (List Name)) (last : List Name) → names_in (lists ++ last ∷ []) (length lists) ≡ last
+in_last [] last = refl
+in_last (l ∷ ls) last = in_last ls last
+
+in_none : (lists : List (List Name)) (last : List Name) (a : ℕ) → length lists < a → names_in (lists ++ last ∷ []) a ≡ []
+in_none [] last zero h = absurd (omega arith)
+in_none [] last (suc a) h = refl
+in_none (l ∷ ls) last zero h = absurd (omega arith)
+in_none (l ∷ ls) last (suc a) h = in_none ls last a (omega arith)
+
+nowhere : (lists : List (List Name)) (a : ℕ) → length lists ≤ a → names_in lists a ≡ []
+nowhere [] a h = refl
+nowhere (l ∷ ls) zero h = absurd (omega arith)
+nowhere (l ∷ ls) (suc a) h = nowhere ls a (omega arith)
+
+-- a name stands only in lists that are there
+pub within : (lists : List (List Name)) (x : Name) (a : ℕ) → is_among x (names_in lists a) ≡ true → a < length lists
+within lists x a h = ⊎_elim
+    (λ below. below)
+    (λ past. absurd (both_ways false refl (sym (ap (is_among x) (nowhere lists a past)) ∙ h)))
+    (cases_lt a (length lists))
+
+among_last : (x y : Name) (xs : List Name) → is_among y (xs ++ x ∷ []) ≡ (is_among y xs || (bytes_eq x y || false))
+among_last x y xs = list_any-append (λ o. bytes_eq o y) xs (x ∷ [])
+
+is_itself : (x : Name) → bytes_eq x x ≡ true
+is_itself x = (bytes_eq-Decides x x).1 refl
+
+same_names : (lists : List (List Name)) (a : ℕ) → names_in (lists ++ [] ∷ []) a ≡ names_in lists a
+same_names [] zero = refl
+same_names [] (suc a) = refl
+same_names (l ∷ ls) zero = refl
+same_names (l ∷ ls) (suc a) = same_names ls a
+
+-- an empty list more
+pub one_empty : (lists : List (List Name)) (at : Name → Option ℕ) → FindsLists lists at → FindsLists (lists ++ [] ∷ []) at
+one_empty lists at f = record {
+  stands = λ x a h. ap (is_among x) (same_names lists a) ∙ f.stands x a h;
+  finds = λ x a h. f.finds x a (sym (ap (is_among x) (same_names lists a)) ∙ h);
+}
+
+-- ---- one name more in the last list, which no earlier list has
+
+module _ (lists : List (List Name)) (names : List Name) (x : Name) (at : Name → Option ℕ) where
+  abbrev old : List (List Name)
+  old = lists ++ names ∷ []
+
+  abbrev new : List (List Name)
+  new = lists ++ (names ++ x ∷ []) ∷ []
+
+  abbrev at_new : Name → Option ℕ
+  at_new q = cond (bytes_eq x q) (Some (length lists)) (at q)
+
+  -- a name that stands in an old list stands in the new one
+  still : (q : Name) (a : ℕ) → is_among q (names_in old a) ≡ true → is_among q (names_in new a) ≡ true
+  still q a h = ⊎_elim
+      (λ here.
+      let before : is_among q names ≡ true = sym (ap (is_among q) (ap (names_in old) here ∙ in_last lists names)) ∙ h in
+      ap (is_among q) (ap (names_in new) here ∙ in_last lists (names ++ x ∷ [])) ∙ among_last x q names ∙ or_left _ _ before)
+      (λ apart. ⊎_elim
+      (λ below. ap (is_among q) (in_earlier lists (names ++ x ∷ []) a below ∙ sym (in_earlier lists names a below)) ∙ h)
+      (λ above. absurd (both_ways false refl (sym (ap (is_among q) (in_none lists names a above)) ∙ h)))
+      apart)
+      (cases_order a (length lists))
+
+  -- and the other way round, but for the new name
+  was : (q : Name) (a : ℕ) → is_among q (names_in new a) ≡ true → (is_among q (names_in old a) ≡ true) ⊎ ((bytes_eq x q ≡ true) × (a ≡ length lists))
+  was q a h = ⊎_elim
+      (λ here.
+      let among : (is_among q names || (bytes_eq x q || false)) ≡ true =
+      sym (among_last x q names) ∙ sym (ap (is_among q) (ap (names_in new) here ∙ in_last lists (names ++ x ∷ []))) ∙ h in
+      ⊎_elim
+      (λ before. inl (ap (is_among q) (ap (names_in old) here ∙ in_last lists names) ∙ before))
+      (λ now. ⊎_elim (λ e. inr (e, here)) (λ off. absurd (both_ways false refl off)) (or_cases (bytes_eq x q) false now))
+      (or_cases (is_among q names) _ among))
+      (λ apart. ⊎_elim
+      (λ below. inl (ap (is_among q) (in_earlier lists names a below ∙ sym (in_earlier lists (names ++ x ∷ []) a below)) ∙ h))
+      (λ above. absurd (both_ways false refl (sym (ap (is_among q) (in_none lists (names ++ x ∷ []) a above)) ∙ h)))
+      apart)
+      (cases_order a (length lists))
+
+  pub one_name : FindsLists old at → (at x ≡ None) ⊎ (at x ≡ Some (length lists)) → FindsLists new at_new
+  one_name f free = record {
+    stands = λ q a h. by (bytes_eq x q) q refl a h;
+    finds = λ q a h. ⊎_elim
+        (λ before. kept q a (f.finds q a before))
+        (λ now. ap (λ b. cond b (Some (length lists)) (at q)) now.0 ∙ ap Some (sym now.1))
+        (was q a h);
+  }
+    where
+      by : (b : Bool) (q : Name) → bytes_eq x q ≡ b → (a : ℕ) → cond b (Some (length lists)) (at q) ≡ Some a → is_among q (names_in new a) ≡ true
+      by true q e a h =
+          let here : a ≡ length lists = cc in
+          ap (is_among q) (ap (names_in new) here ∙ in_last lists (names ++ x ∷ [])) ∙ among_last x q names ∙ or_right _ _ (or_left _ _ e)
+      by false q e a h = still q a (f.stands q a h)
+
+      kept : (q : Name) (a : ℕ) → at q ≡ Some a → at_new q ≡ Some a
+      kept q a h = ⊎_elim
+          (λ e.
+          let own : at x ≡ Some a = ap at ((bytes_eq-Decides x q).0 e) ∙ h in
+          ap (λ b. cond b (Some (length lists)) (at q)) e
+          ∙ ⊎_elim (λ none. let bad : None ≡ Some a = sym none ∙ own in absurd cc) (λ here. sym here ∙ own) free)
+          (λ off. ap (λ b. cond b (Some (length lists)) (at q)) off ∙ h)
+          (cases_Bool (bytes_eq x q))
+
+pub finds_alike : (lists : List (List Name)) (at same : Name → Option ℕ) → ((q : Name) → same q ≡ at q) → FindsLists lists at → FindsLists lists same
+finds_alike lists at same h f = record {
+  stands = λ x a e. f.stands x a (sym (h x) ∙ e);
+  finds = λ x a e. h x ∙ f.finds x a e;
+}
+
+-- a name of the last list that an earlier one has too
+pub in_two : (lists : List (List Name)) (names : List Name) (i : ℕ) (x : Name) (at : Name → Option ℕ) (a : ℕ) → FindsLists (lists ++ take i names ∷ []) at
+    → at x ≡ Some a → (a ≡ length lists → ⊥) → i < length names → x ≡ get_or names i x → IsInTwo (lists ++ names ∷ [])
+in_two lists names i x at a f here apart lt is = ⊎_elim
+    (λ e. absurd (apart e))
+    (λ other. ⊎_elim
+    (λ below.
+    let there : is_among x (names_in lists a) ≡ true = sym (ap (is_among x) (in_earlier lists (take i names) a below)) ∙ f.stands x a here in
+    let in_names : is_among x names ≡ true = list_any_at (λ o. bytes_eq o x) names i x lt (sym (ap (λ o. bytes_eq o x) is) ∙ is_itself x) in
+    (x, a, length lists, below, ap (is_among x) (in_earlier lists names a below) ∙ there, ap (is_among x) (in_last lists names) ∙ in_names))
+    (λ above. absurd (both_ways false refl (sym (ap (is_among x) (in_none lists (take i names) a above)) ∙ f.stands x a here)))
+    other)
+    (cases_order a (length lists))
+
+in_first : (lists : List (List Name)) (n : ℕ) (x : Name) (a : ℕ) → is_among x (names_in (take n lists) a) ≡ true → is_among x (names_in lists a) ≡ true
+in_first [] zero x a h = h
+in_first [] (suc n) x a h = h
+in_first (l ∷ ls) zero x a h = absurd (both_ways false refl h)
+in_first (l ∷ ls) (suc n) x zero h = h
+in_first (l ∷ ls) (suc n) x (suc a) h = in_first ls n x a h
+
+-- what is wrong with the first lists is wrong with all
+pub cause_of_first : (e : GraphFault) (lists : List (List Name)) (n : ℕ) → IsCauseIn e (take n lists) → IsCauseIn e lists
+cause_of_first Doubly lists n two = (two.0, two.1, two.2, two.3, in_first lists n two.0 two.1 two.4, in_first lists n two.0 two.2 two.5)
+cause_of_first Cycle lists n bad = bad
+cause_of_first Memory lists n u = u
+
+-- ---- the lists in which one of several names stands
+
+module _ (lists : List (List Name)) (at : Name → Option ℕ) (f : FindsLists lists at) (names : List Name) (x : Name) where
+  one_more : (a : ℕ) → list_any (λ y. is_among y (names_in lists a)) (names ++ x ∷ [])
+      ≡ (list_any (λ y. is_among y (names_in lists a)) names || (is_among x (names_in lists a) || false))
+  one_more a = list_any-append (λ y. is_among y (names_in lists a)) names (x ∷ [])
+
+  -- a name that stands in none adds none
+  pub with_none : at x ≡ None → lists_with lists names ≡ lists_with lists (names ++ x ∷ [])
+  with_none none = filter_alike _ _ (λ a. sym (one_more a ∙ ap (λ b. list_any (λ y. is_among y (names_in lists a)) names || (b || false)) (absent a) ∙ or_false _)) (numbers_from 0 lists)
+    where
+      absent : (a : ℕ) → is_among x (names_in lists a) ≡ false
+      absent a = false_from_ne_true _ (λ h. let bad : None ≡ Some a = sym none ∙ f.finds x a h in cc)
+
+      or_false : (b : Bool) → (b || false) ≡ b
+      or_false true = refl
+      or_false false = refl
+
+  -- and one that stands in a list adds that
+  pub with_one : (k : ℕ) → at x ≡ Some k → insert_key nat_cmp (lists_with lists names) k ≡ lists_with lists (names ++ x ∷ [])
+  with_one k here =
+      inserted (λ a. list_any (λ y. is_among y (names_in lists a)) names) k 0 lists (omega arith) (omega (arith, within lists x k (f.stands x k here)))
+      ∙ filter_alike _ _ (λ a. sym (one_more a ∙ ap (λ b. list_any (λ y. is_among y (names_in lists a)) names || b) (only a))) (numbers_from 0 lists)
+    where
+      only : (a : ℕ) → (is_among x (names_in lists a) || false) ≡ (a == k)
+      only a = ⊎_elim
+          (λ h. let same : Some k ≡ Some a = sym here ∙ f.finds x a h in let e : k ≡ a = cc in or_left _ false h ∙ sym (eq-eqb a k (sym e)))
+          (λ off. ap (λ b. b || false) off ∙ sym (ne_eqb a k (λ e. both_ways _ off (f.stands x a (here ∙ ap Some (sym e))))))
+          (cases_Bool (is_among x (names_in lists a)))

@@ -1,0 +1,31 @@
+-- A full order leaves no cycle, and a short one leaves some.
+use Rattle.std.proofs.Common.{◌≡◌, ◌<◌, List, ℕ, length, sym, ap, subst, arith}
+use Rattle.std.proofs.lemmas.List.{length-map}
+use Rattle.py_tree.specs.Trees.{Cell}
+use Rattle.py_tree.specs.View.{view_cell, view_cells}
+use Rattle.notebook_meaning.specs.Graph.{order}
+use Rattle.notebook_meaning.proofs.Orders.{full_is_free, short_is_cyclic}
+use Rattle.cell_graph.specs.Counts.{AreWithin}
+use Rattle.cell_graph.proofs.Places.{order_fits}
+use Rattle.cell_graph.proofs.Sweeps.{parents_within}
+use Rattle.cell_graph.proofs.check.notebook.Goals as goal
+
+pub order_of-requires-clause-within : goal.order_of-requires-clause-within
+order_of-requires-clause-within c =
+    subst (λ (ls : List (List ℕ)). AreWithin ls) (sym c.as_slice-4.ensures.value) (parents_within _ c.in_ok-above.above.items c.in_ok-above.ensures.parents)
+
+pub returns-then-len-clause-refused : goal.returns-then-len-clause-refused
+returns-then-len-clause-refused c =
+    let nb : List Cell = view_cells c.args.cells.items in
+    let ordered = c.in_ok-ordered.ensures nb (search (arith, c.in_ok-above.ensures.parents)) in
+    let size = length-map c.args.cells.items view_cell in
+    let short : length (order nb) < length nb = omega (arith, ap length ordered) in
+    (search (arith, c.in_ok-above.ensures.once), λ free. short_is_cyclic nb short free)
+
+pub returns-clause-free : goal.returns-clause-free
+returns-clause-free c =
+    let nb : List Cell = view_cells c.args.cells.items in
+    let ordered = c.in_ok-ordered.ensures nb (search (arith, c.in_ok-above.ensures.parents)) in
+    let size = length-map c.args.cells.items view_cell in
+    let full : length (order nb) ≡ length nb = omega (arith, ap length ordered, order_fits nb) in
+    full_is_free nb full

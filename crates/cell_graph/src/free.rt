@@ -1,0 +1,67 @@
+// Names that a cell can take from other cells.
+ghost use Rattle.std.specs.Prelude.{◌≡◌, map};
+ghost use Rattle.cell_graph.specs.Borrowed.{texts};
+ghost use Rattle.py_tree.specs.Names as names;
+ghost use Rattle.py_tree.specs.Scope as scope;
+
+use crate::name_set::has;
+use indexmap::IndexSet;
+
+// The names of Python's library that notebook code may call.
+const BUILTINS: [&str; 19] = [
+    "abs",
+    "all",
+    "any",
+    "bool",
+    "dict",
+    "enumerate",
+    "int",
+    "len",
+    "list",
+    "max",
+    "min",
+    "print",
+    "range",
+    "repr",
+    "sorted",
+    "str",
+    "sum",
+    "tuple",
+    "zip",
+];
+
+// Whether the name begins with `_`.
+pub(crate) fn is_local(name: &str) -> bool
+    ensures { result ≡ names.is_local name.now }
+{
+    match name.as_bytes() {
+        [] => false,
+        [first, ..] => *first == b'_',
+    }
+}
+
+// Whether the name is one of the words.
+fn is_word(words: &[&str], name: &str) -> bool
+    ensures { result ≡ names.is_among name.now (texts words.now) }
+{
+    for word in words {
+        if *word == name {
+            return true;
+        }
+    }
+    false
+}
+
+// Whether the name is that of a builtin.
+fn is_builtin(name: &str) -> bool
+    ensures { result ≡ names.is_among name.now names.builtins }
+{
+    is_word(&BUILTINS, name)
+}
+
+// Whether a name that a cell reads is one that it takes from other cells.
+pub(crate) fn is_free(bound: &IndexSet<&str>, name: &str) -> bool
+    ensures { result ≡ scope.is_free (texts bound.now.keys) name.now }
+{
+    !has(bound, name) && !is_local(name) && !is_builtin(name)
+}
