@@ -1,7 +1,7 @@
 -- Openings, and notebooks that aren't opened.
 use Rattle.std.specs.Prelude.{◌≡◌, ◌⊎◌, ℕ, List}
-use Rattle.cell_graph.specs.declared.check.GraphFault.{GraphFault}
-use Rattle.cell_graph.specs.declared.check.GraphFault.TheVariants as graph
+use Rattle.cell_graph.specs.declared.fault.GraphFault.{GraphFault}
+use Rattle.cell_graph.specs.declared.fault.GraphFault.TheVariants as graph
 use Rattle.line_parser.specs.declared.thin_file.ThinFault.{ThinFault}
 use Rattle.line_parser.specs.declared.thin_file.ThinFault.TheVariants as form
 use Rattle.notebook_meaning.specs.Once.{IsAccepted, IsRefused, IsFormless, once_text}

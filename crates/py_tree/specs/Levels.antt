@@ -4,7 +4,6 @@ use Rattle.std.specs.List.{list_all}
 use Rattle.py_tree.specs.Names.{is_identifier}
 use Rattle.py_tree.specs.Numbers.{is_number}
 use Rattle.py_tree.specs.Trees.{Tree, literal, name, sum, Head, value, assign, stmt, Stmts, end, then_comes}
-use Rattle.py_tree.specs.declared.token.Token.{Token}
 use Rattle.py_tree.specs.declared.token.TokenKind.{TokenKind}
 use Rattle.py_tree.specs.declared.token.TokenKind.TheVariants as kind
 

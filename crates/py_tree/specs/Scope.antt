@@ -1,5 +1,5 @@
 -- The names that a cell defines and the names that it references.
-use Rattle.std.specs.Prelude.{ℕ, Bool, not, ◌||◌, List, [], ◌∷◌, ◌++◌, filter}
+use Rattle.std.specs.Prelude.{Bool, not, ◌||◌, List, [], ◌∷◌, ◌++◌, filter}
 use Rattle.py_tree.specs.Names.{Name, is_among, first_seen, is_local, builtins}
 use Rattle.py_tree.specs.Trees.{Tree, literal, name, sum, Head, value, assign, stmt, Stmts, end, then_comes, Cell}
 

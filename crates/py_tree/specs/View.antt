@@ -1,5 +1,5 @@
 -- Trees of the code, seen as pure data.
-use Rattle.std.specs.Prelude.{ℕ, List, [], ◌∷◌, map}
+use Rattle.std.specs.Prelude.{List, map}
 use Rattle.py_tree.specs.Trees.{Tree, literal, name, sum, Head, value, assign, stmt, Stmts, stmts_of, Cell}
 use Rattle.py_tree.specs.Trees as pure
 use Rattle.py_tree.specs.declared.tree.Expr.{Expr, fold-Expr}
