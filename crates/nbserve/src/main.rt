@@ -5,6 +5,8 @@ ghost use Rattle.std.specs.Prelude.{◌≡◌, ◌<◌};
 
 mod cell_frame;
 mod progress;
+#[cfg(test)]
+mod tests;
 mod texts;
 mod top;
 mod unopened;

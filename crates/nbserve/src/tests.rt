@@ -1,0 +1,184 @@
+// Runs of the program over files and a sink in memory. The texts that are wanted are written by hand.
+ghost use Rattle.std.specs.Prelude.{◌≡◌, ◌<◌};
+
+use crate::top::run_words;
+use link_io::{MemFile, MemFiles, MemSink};
+use py_eval::Steps;
+use std::alloc::{AllocError, Global};
+use std::marker::Brand;
+use std::sync::ledger::{Blank, Ledger};
+use std::test::Fail;
+
+// What a run of the program answered and wrote.
+#[derive(Drop)]
+struct Answer {
+    status: u8,
+    written: Vec<u8>,
+}
+
+// A run: its words, the text of the file `nb.py`, how many bytes the sink has room for, and which call of the files fails, if
+// one does.
+#[derive(Clone, Copy)]
+struct Case<'a> {
+    words: &'a [&'a str],
+    text: &'a [u8],
+    room: usize,
+    failing: &'a [u64],
+}
+
+fn strings(alloc: Global, words: &[&str]) -> Result<Vec<String>, AllocError> {
+    let mut strings = Vec::new(alloc);
+    for word in words {
+        strings.push(String::from_str(alloc, *word)?)?;
+    }
+    Ok(strings)
+}
+
+fn run<L: Ledger>(alloc: Global, case: Case<'_>, blank: Blank) -> Result<Answer, AllocError>
+    requires { (blank.name ≡ L.name) × (blank.parts ≡ L.parts) × (0 < blank.parts) }
+{
+    let mut held = Vec::new(alloc);
+    held.push(MemFile {
+        name: String::from_str(alloc, "nb.py")?,
+        bytes: Vec::from_slice(alloc, case.text)?,
+    })?;
+    let mut files = MemFiles {
+        files: held,
+        failing: Vec::from_slice(alloc, case.failing)?,
+        calls: 0,
+        faults: 0,
+    };
+    let mut out = MemSink {
+        bytes: Vec::new(alloc),
+        room: case.room,
+        faults: 0,
+    };
+    let words = strings(alloc, case.words)?;
+    let mut steps = Steps::<L>::new(blank);
+    let status = run_words(alloc, words.as_slice(), &mut files, &mut out, &mut steps);
+    Ok(Answer {
+        status,
+        written: out.bytes,
+    })
+}
+
+fn answer(alloc: Global, case: Case<'_>) -> Result<Answer, AllocError> {
+    run::<Brand>(alloc, case, Blank::new(1))
+}
+
+const ONCE: &[&str] = &["once", "nb.py"];
+
+fn opened(text: &[u8]) -> Case<'_> {
+    Case {
+        words: ONCE,
+        text,
+        room: 1_000_000,
+        failing: &[],
+    }
+}
+
+const CHAIN: &[u8] = b"import marimo
+app = marimo.App()
+@app.cell
+def _():
+    b
+@app.cell
+def _():
+    b = a + 3
+@app.cell
+def _():
+    a = 2
+if __name__ == \"__main__\":
+    app.run()
+";
+
+const CHAIN_FRAMES: &[u8] = b"{\"cell\":2,\"console\":[],\"error\":null,\"output\":null,\"status\":\"ok\"}
+{\"cell\":1,\"console\":[],\"error\":null,\"output\":null,\"status\":\"ok\"}
+{\"cell\":0,\"console\":[],\"error\":null,\"output\":{\"text\":\"5\",\"type\":\"plain\"},\"status\":\"ok\"}
+{\"done\":3}
+";
+
+#[test]
+fn opens_notebooks(rt: HostRuntime) -> Result<(), Fail> {
+    let cases: [(&[u8], &[u8]); 4] = [
+        (CHAIN, CHAIN_FRAMES),
+        (
+            b"import marimo\napp = marimo.App()\nif __name__ == \"__main__\":\n    app.run()\n",
+            b"{\"done\":0}\n",
+        ),
+        (
+            b"import marimo\napp = marimo.App()\n@app.cell\ndef _():\n    zz\nif __name__ == \"__main__\":\n    app.run()\n",
+            b"{\"cell\":0,\"console\":[],\"error\":{\"kind\":\"NameError\",\"line\":5},\"output\":null,\"status\":\"error\"}\n{\"done\":1}\n",
+        ),
+        (
+            b"import marimo\napp = marimo.App()\n@app.cell\ndef _():\n    b + 1\n@app.cell\ndef _():\n    b = a + 170141183460469231731687303715884105727\n@app.cell\ndef _():\n    a = 1\nif __name__ == \"__main__\":\n    app.run()\n",
+            b"{\"cell\":2,\"console\":[],\"error\":null,\"output\":null,\"status\":\"ok\"}\n{\"cell\":1,\"console\":[],\"error\":{\"kind\":\"IntRange\",\"line\":8},\"output\":null,\"status\":\"error\"}\n{\"cell\":0,\"console\":[],\"error\":null,\"output\":null,\"status\":\"cancelled\"}\n{\"done\":3}\n",
+        ),
+    ];
+    for (text, wanted) in cases {
+        let answered = answer(rt.alloc(), opened(text))?;
+        assert_eq!(rt; answered.status, 0);
+        assert_eq!(rt; answered.written.as_slice(), wanted);
+    }
+    Ok(())
+}
+
+#[test]
+fn refuses_doubled_names_and_cycles(rt: HostRuntime) -> Result<(), Fail> {
+    let cases: [&[u8]; 2] = [
+        b"import marimo\napp = marimo.App()\n@app.cell\ndef _():\n    b = 1\n@app.cell\ndef _():\n    b = 1\nif __name__ == \"__main__\":\n    app.run()\n",
+        b"import marimo\napp = marimo.App()\n@app.cell\ndef _():\n    a = b\n@app.cell\ndef _():\n    b = a\nif __name__ == \"__main__\":\n    app.run()\n",
+    ];
+    for text in cases {
+        let answered = answer(rt.alloc(), opened(text))?;
+        assert_eq!(rt; answered.status, 1);
+        assert_eq!(rt; answered.written.as_slice(), b"refused 0 Thin\n".as_slice());
+    }
+    Ok(())
+}
+
+#[test]
+fn answers_words_that_are_no_form(rt: HostRuntime) -> Result<(), Fail> {
+    let cases: [&[&str]; 7] = [
+        &[],
+        &["once"],
+        &["once", ""],
+        &["once", "-nb.py"],
+        &["once", "nb.py", "nb.py"],
+        &["twice", "nb.py"],
+        &["--help"],
+    ];
+    for words in cases {
+        let mut case = opened(CHAIN);
+        case.words = words;
+        let answered = answer(rt.alloc(), case)?;
+        assert_eq!(rt; answered.status, 2);
+        assert_eq!(rt; answered.written.as_slice(), b"usage\n".as_slice());
+    }
+    Ok(())
+}
+
+#[test]
+fn tells_faults(rt: HostRuntime) -> Result<(), Fail> {
+    let mut unknown = opened(CHAIN);
+    unknown.words = &["once", "other.py"];
+    let answered = answer(rt.alloc(), unknown)?;
+    assert_eq!(rt; answered.status, 3);
+    assert_eq!(rt; answered.written.as_slice(), b"read fault\n".as_slice());
+
+    let mut failing = opened(CHAIN);
+    failing.failing = &[2];
+    let answered = answer(rt.alloc(), failing)?;
+    assert_eq!(rt; answered.status, 3);
+    assert_eq!(rt; answered.written.as_slice(), b"read fault\n".as_slice());
+
+    // Room for exactly the first two lines.
+    let mut full = opened(CHAIN);
+    full.room = 132;
+    let answered = answer(rt.alloc(), full)?;
+    assert_eq!(rt; answered.status, 4);
+    assert_eq!(rt; answered.written.len(), 132);
+    assert!(rt; CHAIN_FRAMES.starts_with(answered.written.as_slice()));
+    assert!(rt; answered.written.as_slice().ends_with(b"}\n"));
+    Ok(())
+}
