@@ -16,7 +16,7 @@ use py_value::{Lines, Memory, Text};
 use std::alloc::Global;
 use std::collections::BTreeSet;
 
-/// The parents of each cell, where no name is defined in two cells.
+// The parents of each cell, where no name is defined in two cells.
 pub(crate) fn all_parents(
     alloc: Global,
     cells: &[CellCode],

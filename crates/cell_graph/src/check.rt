@@ -14,7 +14,8 @@ use py_tree::CellCode;
 use py_value::{Lines, Memory};
 use std::alloc::Global;
 
-/// The notebook of these cells.
+/// The notebook of these cells. It is refused where a name is defined in two cells, else where a cell lies on a cycle, and
+/// where memory is wanting.
 pub fn notebook(alloc: Global, cells: Vec<CellCode>) -> Result<Notebook, GraphFault>
     requires { length cells.items < 2 ^ 32 }
     ensures same { IfOk result (λ nb. nb ≡ cells.items) }

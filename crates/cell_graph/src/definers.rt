@@ -8,10 +8,10 @@ use py_value::{Lines, Text};
 use std::alloc::Global;
 use std::collections::HashMap;
 
-/// For each name the cell that defines it.
+// For each name the cell that defines it.
 pub(crate) type Definers<'a> = HashMap<&'a str, u32>;
 
-/// The table of the names that the cells define, where no name is defined in two of them.
+// The table of the names that the cells define, where no name is defined in two of them.
 pub(crate) fn definers<'a>(alloc: Global, defined: &'a [Lines]) -> Result<Definers<'a>, GraphFault>
     requires { length defined.now < 2 ^ 32 }
     ensures finds { IfOk result (λ table. FindsLists defined.now (list_at table)) }

@@ -20,3 +20,6 @@ pub use cell_names::{defs, refs};
 pub use check::notebook;
 pub use fault::GraphFault;
 pub use graph::Notebook;
+
+#[cfg(test)]
+mod tests;

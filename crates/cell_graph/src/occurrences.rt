@@ -54,7 +54,7 @@ fn add_line_binds<'a>(names: &mut Vec<&'a str>, line: &'a Line) -> Result<(), Me
     Ok(())
 }
 
-/// Adds every name that lines and their blocks bind at cell scope.
+// Adds every name that lines and their blocks bind at cell scope.
 pub(crate) fn add_bound<'a>(names: &mut Vec<&'a str>, block: &'a Block) -> Result<(), Memory>
     ensures { OnOk result (texts names.new.items ≡ texts names.old.items ++ scope.bound (view_block block.now)) }
 {
@@ -65,7 +65,7 @@ pub(crate) fn add_bound<'a>(names: &mut Vec<&'a str>, block: &'a Block) -> Resul
     Ok(())
 }
 
-/// Adds every name that they read at cell scope.
+// Adds every name that they read at cell scope.
 pub(crate) fn add_read<'a>(names: &mut Vec<&'a str>, block: &'a Block) -> Result<(), Memory>
     ensures { OnOk result (texts names.new.items ≡ texts names.old.items ++ scope.read_names (view_block block.now)) }
 {

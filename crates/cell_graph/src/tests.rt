@@ -1,0 +1,133 @@
+// Small notebooks: a cell is given by the name that it binds and the names that it adds up.
+use crate::{GraphFault, defs, notebook, refs};
+use py_tree::{Block, CellCode, Expr, Line, Spelling, Spellings, Stmt, Token, TokenKind};
+use py_value::{Lines, Memory};
+use sqlite_items::Boxed;
+use std::alloc::Global;
+use std::test::Fail;
+
+type Row<'a> = (&'a str, &'a [&'a str]);
+
+fn spelled(alloc: Global, text: &str) -> Result<Spelling, Memory> {
+    Ok(Spelling::of(String::from_str(alloc, text)?))
+}
+
+fn boxed(alloc: Global, tree: Expr) -> Result<Boxed<Expr>, Memory> {
+    Ok(Boxed::new(alloc, tree)?)
+}
+
+// `1`, and these names added to it
+fn one_and(alloc: Global, names: &[&str]) -> Result<Expr, Memory> {
+    let mut tree = Expr::Literal(Token {
+        kind: TokenKind::Number,
+        spelling: spelled(alloc, "1")?,
+    });
+    for name in names {
+        let left = boxed(alloc, tree)?;
+        tree = Expr::Sum(left, boxed(alloc, Expr::Name(spelled(alloc, *name)?))?);
+    }
+    Ok(tree)
+}
+
+fn assignment(alloc: Global, row: Row) -> Result<Stmt, Memory> {
+    let mut targets = Vec::new(alloc);
+    targets.push(spelled(alloc, row.0)?)?;
+    Ok(Stmt {
+        number: 1,
+        line: Line::Assign(Spellings::of(targets), one_and(alloc, row.1)?),
+        block: Block::of(Vec::new(alloc)),
+    })
+}
+
+// a cell with a line for each row
+fn cell(alloc: Global, rows: &[Row]) -> Result<CellCode, Memory> {
+    let mut stmts = Vec::new(alloc);
+    for row in rows {
+        stmts.push(assignment(alloc, *row)?)?;
+    }
+    Ok(CellCode {
+        line: 1,
+        body: Block::of(stmts),
+    })
+}
+
+// a cell for each row
+fn cells(alloc: Global, rows: &[Row]) -> Result<Vec<CellCode>, Memory> {
+    let mut all = Vec::new(alloc);
+    for row in rows {
+        all.push(cell(alloc, &[*row])?)?;
+    }
+    Ok(all)
+}
+
+fn are(names: &Lines, wanted: &[&str]) -> bool {
+    let given = names.items();
+    if given.len() != wanted.len() {
+        return false;
+    }
+    for i in 0..given.len() {
+        if given[i].items() != wanted[i] {
+            return false;
+        }
+    }
+    true
+}
+
+#[test]
+fn names_of_a_cell(rt: HostRuntime) -> Result<(), Fail> {
+    let cell = cell(
+        rt.alloc(),
+        &[
+            ("_t", &["b", "a"]),
+            ("x", &["_t", "len", "b"]),
+            ("y", &["x"]),
+            ("x", &["c", "y"]),
+        ],
+    )?;
+    assert!(rt; are(&defs(rt.alloc(), &cell)?, &["x", "y"]));
+    assert!(rt; are(&refs(rt.alloc(), &cell)?, &["b", "a", "c"]));
+    Ok(())
+}
+
+#[test]
+fn orders_cells(rt: HostRuntime) -> Result<(), Fail> {
+    let chain: &[Row] = &[("c", &["b"]), ("b", &["a"]), ("a", &[])];
+    let diamond: &[Row] = &[("d", &["c", "b"]), ("b", &["a"]), ("c", &["a"]), ("a", &[])];
+    for (rows, order, parents) in [
+        (chain, [2, 1, 0].as_slice(), [1].as_slice()),
+        (diamond, &[3, 1, 2, 0], &[1, 2]),
+    ] {
+        let cells = cells(rt.alloc(), rows)?;
+        assert!(rt; 0 < cells.len() && cells.len() < 10);
+        match notebook(rt.alloc(), cells) {
+            Ok(nb) => {
+                assert!(rt; 0 < nb.cells().len());
+                assert_eq!(rt; nb.order(), order);
+                assert_eq!(rt; nb.parents(0), parents);
+                assert!(rt; are(nb.defs_of(0), &[rows[0].0]));
+            }
+            Err(_) => panic!(rt; "refused"),
+        }
+    }
+    Ok(())
+}
+
+#[test]
+fn refuses_cells(rt: HostRuntime) -> Result<(), Fail> {
+    let doubled: &[Row] = &[("a", &[]), ("b", &["a"]), ("a", &["b"])];
+    let cycle: &[Row] = &[("a", &["b"]), ("b", &["a"])];
+    let leads_to_cycle: &[Row] = &[("x", &[]), ("a", &["b", "x"]), ("b", &["a"])];
+    for (rows, fault) in [
+        (doubled, GraphFault::Doubly),
+        (cycle, GraphFault::Cycle),
+        (leads_to_cycle, GraphFault::Cycle),
+    ] {
+        let cells = cells(rt.alloc(), rows)?;
+        assert!(rt; cells.len() < 10);
+        match notebook(rt.alloc(), cells) {
+            Ok(_) => panic!(rt; "accepted"),
+            Err(found) => assert_eq!(rt; found, fault),
+        }
+    }
+    Ok(())
+}
