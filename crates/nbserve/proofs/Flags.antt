@@ -47,9 +47,9 @@ pub flags_set : (n : ℕ) (flags : List Bool) (frames : List CellFrame) (f : Cel
 flags_set n flags frames f there on h =
     let inside : f.cell < length flags = omega (arith, h.count, there) in
     record {
-  count = length-set flags f.cell true ∙ h.count;
-  each = λ c l. set_at flags frames f c (f.cell == c) refl inside on (h.each c l) ∙ sym (ended_more frames f c);
-}
+      count = length-set flags f.cell true ∙ h.count;
+      each = λ c l. set_at flags frames f c (f.cell == c) refl inside on (h.each c l) ∙ sym (ended_more frames f c);
+    }
 
 -- the flags of some cells, and what they show
 pub all_flags : (n : ℕ) (flags : List Bool) (frames : List CellFrame) (cs : List ℕ) → AreFlags n flags frames → All (λ c. c < n) cs → list_all (λ c. slice_index_or flags c false) cs ≡ list_all (ended_ok frames) cs

@@ -107,10 +107,11 @@ lines_good n (then_comes (stmt k head block) rest) h =
     let q = both ((k == n) && is_line head) (is_empty block) p.0 in
     let r = head_good head (both (k == n) (is_line head) q.0).1 in
     let e = empty_good block q.1 in
-    let s = lines_good (n + 1) rest p.1 in
-    (and_true (is_levelled_head head && are_levelled block) (are_levelled rest) (and_true (is_levelled_head head) (are_levelled block) r.0 e.0) s.0,
-    list_all-append (λ y. not (is_local y)) (head_binds head ++ bound block) (bound rest)
-    ∙ and_true _ _ (list_all-append (λ y. not (is_local y)) (head_binds head) (bound block) ∙ and_true _ _ r.1 (ap (list_all (λ y. not (is_local y))) e.1)) s.1)
+    let s = lines_good (n + 1) rest p.1 in (
+      and_true (is_levelled_head head && are_levelled block) (are_levelled rest) (and_true (is_levelled_head head) (are_levelled block) r.0 e.0) s.0,
+      list_all-append (λ y. not (is_local y)) (head_binds head ++ bound block) (bound rest)
+          ∙ and_true _ _ (list_all-append (λ y. not (is_local y)) (head_binds head) (bound block) ∙ and_true _ _ r.1 (ap (list_all (λ y. not (is_local y))) e.1)) s.1,
+    )
 
 cells_good : (n : ℕ) (nb : List Cell) (c : ℕ) (code : Cell) → are_cells n nb ≡ true → slice_get nb c ≡ Some code → (m : ℕ) × (are_lines m code.body ≡ true)
 cells_good n [] c code h e = let no : None ≡ Some code = e in absurd cc

@@ -96,7 +96,14 @@ impl Progress {
         ensures steps { OnOk result (steps.new ≡ steps.old + cost_of self.old.budget (run_of self.old (view_cell code.now))) }
         ensures others { self.new ≡ record self.old { env = self.new.env } }
     {
-        let ran = run_block(alloc, &mut self.env, &code.body, &self.scene, self.budget, steps)?;
+        let ran = run_block(
+            alloc,
+            &mut self.env,
+            &code.body,
+            &self.scene,
+            self.budget,
+            steps,
+        )?;
         settle(&mut self.env, defs, ran.end);
         ran_frame(alloc, cell, ran)
     }

@@ -62,7 +62,7 @@ fn run<L: Ledger>(alloc: Global, case: Case<'_>, blank: Blank) -> Result<Answer,
     })
 }
 
-fn answer(alloc: Global, case: Case<'_>) -> Result<Answer, AllocError> {
+fn answered(alloc: Global, case: Case<'_>) -> Result<Answer, AllocError> {
     run::<Brand>(alloc, case, Blank::new(1))
 }
 
@@ -92,7 +92,8 @@ if __name__ == \"__main__\":
     app.run()
 ";
 
-const CHAIN_FRAMES: &[u8] = b"{\"cell\":2,\"console\":[],\"error\":null,\"output\":null,\"status\":\"ok\"}
+const CHAIN_FRAMES: &[u8] =
+    b"{\"cell\":2,\"console\":[],\"error\":null,\"output\":null,\"status\":\"ok\"}
 {\"cell\":1,\"console\":[],\"error\":null,\"output\":null,\"status\":\"ok\"}
 {\"cell\":0,\"console\":[],\"error\":null,\"output\":{\"text\":\"5\",\"type\":\"plain\"},\"status\":\"ok\"}
 {\"done\":3}
@@ -116,9 +117,9 @@ fn opens_notebooks(rt: HostRuntime) -> Result<(), Fail> {
         ),
     ];
     for (text, wanted) in cases {
-        let answered = answer(rt.alloc(), opened(text))?;
-        assert_eq!(rt; answered.status, 0);
-        assert_eq!(rt; answered.written.as_slice(), wanted);
+        let answer = answered(rt.alloc(), opened(text))?;
+        assert_eq!(rt; answer.status, 0);
+        assert_eq!(rt; answer.written.as_slice(), wanted);
     }
     Ok(())
 }
@@ -130,9 +131,9 @@ fn refuses_doubled_names_and_cycles(rt: HostRuntime) -> Result<(), Fail> {
         b"import marimo\napp = marimo.App()\n@app.cell\ndef _():\n    a = b\n@app.cell\ndef _():\n    b = a\nif __name__ == \"__main__\":\n    app.run()\n",
     ];
     for text in cases {
-        let answered = answer(rt.alloc(), opened(text))?;
-        assert_eq!(rt; answered.status, 1);
-        assert_eq!(rt; answered.written.as_slice(), b"refused 0 Thin\n".as_slice());
+        let answer = answered(rt.alloc(), opened(text))?;
+        assert_eq!(rt; answer.status, 1);
+        assert_eq!(rt; answer.written.as_slice(), b"refused 0 Thin\n".as_slice());
     }
     Ok(())
 }
@@ -151,9 +152,9 @@ fn answers_words_that_are_no_form(rt: HostRuntime) -> Result<(), Fail> {
     for words in cases {
         let mut case = opened(CHAIN);
         case.words = words;
-        let answered = answer(rt.alloc(), case)?;
-        assert_eq!(rt; answered.status, 2);
-        assert_eq!(rt; answered.written.as_slice(), b"usage\n".as_slice());
+        let answer = answered(rt.alloc(), case)?;
+        assert_eq!(rt; answer.status, 2);
+        assert_eq!(rt; answer.written.as_slice(), b"usage\n".as_slice());
     }
     Ok(())
 }
@@ -162,23 +163,23 @@ fn answers_words_that_are_no_form(rt: HostRuntime) -> Result<(), Fail> {
 fn tells_faults(rt: HostRuntime) -> Result<(), Fail> {
     let mut unknown = opened(CHAIN);
     unknown.words = &["once", "other.py"];
-    let answered = answer(rt.alloc(), unknown)?;
-    assert_eq!(rt; answered.status, 3);
-    assert_eq!(rt; answered.written.as_slice(), b"read fault\n".as_slice());
+    let answer = answered(rt.alloc(), unknown)?;
+    assert_eq!(rt; answer.status, 3);
+    assert_eq!(rt; answer.written.as_slice(), b"read fault\n".as_slice());
 
     let mut failing = opened(CHAIN);
     failing.failing = &[2];
-    let answered = answer(rt.alloc(), failing)?;
-    assert_eq!(rt; answered.status, 3);
-    assert_eq!(rt; answered.written.as_slice(), b"read fault\n".as_slice());
+    let answer = answered(rt.alloc(), failing)?;
+    assert_eq!(rt; answer.status, 3);
+    assert_eq!(rt; answer.written.as_slice(), b"read fault\n".as_slice());
 
     // Room for exactly the first two lines.
     let mut full = opened(CHAIN);
-    full.room = 132;
-    let answered = answer(rt.alloc(), full)?;
-    assert_eq!(rt; answered.status, 4);
-    assert_eq!(rt; answered.written.len(), 132);
-    assert!(rt; CHAIN_FRAMES.starts_with(answered.written.as_slice()));
-    assert!(rt; answered.written.as_slice().ends_with(b"}\n"));
+    full.room = 130;
+    let answer = answered(rt.alloc(), full)?;
+    assert_eq!(rt; answer.status, 4);
+    assert_eq!(rt; answer.written.len(), 130);
+    assert!(rt; CHAIN_FRAMES.starts_with(answer.written.as_slice()));
+    assert!(rt; answer.written.as_slice().ends_with(b"}\n"));
     Ok(())
 }

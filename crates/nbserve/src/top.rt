@@ -17,10 +17,15 @@ use std::sync::ledger::Ledger;
 const BYTE_LIMIT: u64 = 1_048_576;
 
 const DONE: u8 = 0;
+
 const REFUSED: u8 = 1;
+
 pub const USAGE: u8 = 2;
+
 const READ_FAULT: u8 = 3;
+
 const WRITE_FAULT: u8 = 4;
+
 pub const WANT_OF_MEMORY: u8 = 5;
 
 // Writes the text of a status, and answers the status, or that the text couldn't be written.

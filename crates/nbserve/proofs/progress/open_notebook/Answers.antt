@@ -14,13 +14,15 @@ loop-cell-preserved g c =
     let so_far = c.loop-cell.invariant.goes in
     let more = so_far.0 ++ (c.take_cell.new.steps - c.loop-cell.steps) ∷ [] in
     record {
-  good = c.in_ok-take_cell.ensures.good;
-  count = omega (arith, c.in_ok-take_cell.ensures.count, c.loop-cell.invariant.count);
-  budget = c.in_ok-take_cell.ensures.budget ∙ c.loop-cell.invariant.budget;
-  goes = (more,
-      goes_on nb c.args.budget c.order-cell-items.result.now c.loop-cell.cell-index c.loop-cell.progress c.take_cell.new.self so_far.0 more (whole.whole nb c.args.budget []) c.loop-cell-test.true so_far.1 c.loop-cell.invariant.budget (c.in_ok-take_cell.ensures.taken so_far.0),
-      steps_more c.args.steps.now c.loop-cell.steps c.take_cell.new.steps so_far.0 so_far.2 c.in_ok-take_cell.ensures.later);
-}
+      good = c.in_ok-take_cell.ensures.good;
+      count = omega (arith, c.in_ok-take_cell.ensures.count, c.loop-cell.invariant.count);
+      budget = c.in_ok-take_cell.ensures.budget ∙ c.loop-cell.invariant.budget;
+      goes = (
+        more,
+        goes_on nb c.args.budget c.order-cell-items.result.now c.loop-cell.cell-index c.loop-cell.progress c.take_cell.new.self so_far.0 more (whole.whole nb c.args.budget []) c.loop-cell-test.true so_far.1 c.loop-cell.invariant.budget (c.in_ok-take_cell.ensures.taken so_far.0),
+        steps_more c.args.steps.now c.loop-cell.steps c.take_cell.new.steps so_far.0 so_far.2 c.in_ok-take_cell.ensures.later,
+      );
+    }
 
 pub returns-clause-few : goal.returns-clause-few
 returns-clause-few g c =

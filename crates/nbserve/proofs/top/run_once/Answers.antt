@@ -18,16 +18,16 @@ pub returns-in-Ok-opening_text : goal.returns-in-Ok-opening_text
 returns-in-Ok-opening_text g c words asked =
     ended_wrote _ _ _ words 0 _ c.end_with-in-Ok-opening_text.result _ _
     (comes_opened _ _ words c.args.file.now c.as_slice.result.now c.as_slice-in-Ok-opening_text.result.now asked
-        (subst (AreRead (g.F.Files.holds c.args.files.now) c.args.file.now) (sym c.as_slice.ensures.value) c.in-Ok.ensures.read)
-        (subst (IsOpening c.as_slice.result.now) (sym c.as_slice-in-Ok-opening_text.ensures.value) c.in-Ok-opening_text.ensures.opened))
+    (subst (AreRead (g.F.Files.holds c.args.files.now) c.args.file.now) (sym c.as_slice.ensures.value) c.in-Ok.ensures.read)
+    (subst (IsOpening c.as_slice.result.now) (sym c.as_slice-in-Ok-opening_text.ensures.value) c.in-Ok-opening_text.ensures.opened))
     c.end_with-in-Ok-opening_text.ensures
 
 pub returns-in-Err-Refused : goal.returns-in-Err-Refused
 returns-in-Err-Refused g c words asked =
     refused_wrote _ _ _ words c.in-Err-Refused.line c.refuse.result _ _
     (comes_refused _ _ words c.args.file.now c.as_slice.result.now c.in-Err-Refused.line asked
-        (subst (AreRead (g.F.Files.holds c.args.files.now) c.args.file.now) (sym c.as_slice.ensures.value) c.in-Ok.ensures.read)
-        (subst (λ why. IsWhy why c.as_slice.result.now) c.in-Err-Refused.field-0-is c.in-Err-Refused.ensures.refused))
+    (subst (AreRead (g.F.Files.holds c.args.files.now) c.args.file.now) (sym c.as_slice.ensures.value) c.in-Ok.ensures.read)
+    (subst (λ why. IsWhy why c.as_slice.result.now) c.in-Err-Refused.field-0-is c.in-Err-Refused.ensures.refused))
     c.refuse.ensures
 
 pub returns : goal.returns

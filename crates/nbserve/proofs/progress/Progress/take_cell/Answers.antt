@@ -25,6 +25,6 @@ returns-clause-taken g c =
     let there = code_there nb c.args.cell (omega (arith, length-map c.args.notebook.now view_cell, c.requires.there)) in
     on_ok_then c.keep.result _ _
     (λ frames costs. taken_one nb c.args.self.now c.keep.new.self c.args.cell there.0 c.in_ok-frame.frame c.args.steps.now c.cell_frame.new.steps costs there.1
-        (c.in_ok-frame.ensures.frame there.0 there.1) (c.keep.ensures.env ∙ c.in_ok-frame.ensures.env there.0 there.1)
-        (frames ∙ ap (λ (p : Progress). p.frames.items ++ c.in_ok-frame.frame ∷ []) c.in_ok-frame.ensures.others) (c.in_ok-frame.ensures.steps there.0 there.1))
+    (c.in_ok-frame.ensures.frame there.0 there.1) (c.keep.ensures.env ∙ c.in_ok-frame.ensures.env there.0 there.1)
+    (frames ∙ ap (λ (p : Progress). p.frames.items ++ c.in_ok-frame.frame ∷ []) c.in_ok-frame.ensures.others) (c.in_ok-frame.ensures.steps there.0 there.1))
     c.keep.ensures.frames

@@ -1,5 +1,5 @@
 -- The steps are counted in the blank ledger that is given.
-use Rattle.nbserve.proofs.tests.answer.Given as goal
+use Rattle.nbserve.proofs.tests.answered.Given as goal
 
 abbrev pub ghosts-run : goal.ghosts-run
 ghosts-run a = record { name = a.blank.name; parts = a.blank.parts }
