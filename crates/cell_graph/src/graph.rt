@@ -34,13 +34,16 @@ impl Model for Notebook {
     ghost view = { λ nb. nb.cells.items };
 
     ghost invariant = { λ nb. (length nb.cells.items < 2 ^ 32) × AreDefs (view_cells nb.cells.items) nb.defined.items
-        × AreParents (view_cells nb.cells.items) nb.above.items × (nb.ordered.items ≡ graph.order (view_cells nb.cells.items)) };
+        × AreParents (view_cells nb.cells.items) nb.above.items × (nb.ordered.items ≡ graph.order (view_cells nb.cells.items))
+        × graph.NoneDoubled (view_cells nb.cells.items) × graph.NoneCyclic (view_cells nb.cells.items) };
 }
 
 impl Notebook {
-    /// The cells in file order.
+    /// The cells in file order. No name is defined in two of them, and none lies on a cycle.
     pub fn cells(&self) -> &[CellCode]
-        ensures { result.now ≡ self.now }
+        ensures cells { result.now ≡ self.now }
+        ensures once { graph.NoneDoubled (view_cells self.now) }
+        ensures free { graph.NoneCyclic (view_cells self.now) }
     {
         self.cells.as_slice()
     }

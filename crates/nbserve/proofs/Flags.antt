@@ -1,26 +1,19 @@
 -- Flags of the cells that have ended ok.
-use Rattle.std.proofs.Common.{◌≡◌, ◌∙◌, refl, sym, ap, subst, ℕ, suc, ◌+◌, ◌<◌, ◌≢◌, Bool, true, false, ◌&&◌, ◌||◌, List, [], ◌∷◌, ◌++◌, length, get_or-set_same, get_or-set_other, arith}
+use Rattle.std.proofs.Common.{◌≡◌, ◌∙◌, refl, sym, ap, ℕ, ◌<◌, ◌≢◌, Bool, true, false, ◌&&◌, ◌||◌, List, [], ◌∷◌, ◌++◌, length, get_or-set_same, get_or-set_other, arith}
 use Rattle.std.specs.Prelude.{All, slice_index_or, slice_set, ◌==◌}
 use Rattle.std.proofs.Math.ListN.{length-set}
 use Rattle.std.proofs.lemmas.Bool.Decides.{nat_tests}
 use Rattle.nbserve.proofs.Bounds.{head_holds, tail_holds}
-use Rattle.std.specs.List.{list_any, list_all}
+use Rattle.std.specs.List.{list_all}
 use Rattle.std.proofs.lemmas.List.Folds.{list_any-append}
 use Rattle.notebook_meaning.specs.declared.frames.CellFrame.{CellFrame}
 use Rattle.notebook_meaning.specs.Whole.{ended_ok, is_ok}
 use Rattle.nbserve.specs.Opened.{AreFlags}
-
-or_false : (b : Bool) → (b || false) ≡ b
-or_false true = refl
-or_false false = refl
+use Rattle.nbserve.proofs.Booleans.{and_false, or_true, or_false}
 
 -- a frame more
 ended_more : (frames : List CellFrame) (f : CellFrame) (c : ℕ) → ended_ok (frames ++ f ∷ []) c ≡ (ended_ok frames c || ((f.cell == c) && is_ok f.status))
 ended_more frames f c = list_any-append (λ (g : CellFrame). (g.cell == c) && is_ok g.status) frames (f ∷ []) ∙ ap (λ b. ended_ok frames c || b) (or_false ((f.cell == c) && is_ok f.status))
-
-and_false : (b : Bool) → (b && false) ≡ false
-and_false true = refl
-and_false false = refl
 
 -- a cell that isn't ok changes no flag
 pub flags_stay : (n : ℕ) (flags : List Bool) (frames : List CellFrame) (f : CellFrame) → is_ok f.status ≡ false → AreFlags n flags frames → AreFlags n flags (frames ++ f ∷ [])
@@ -28,10 +21,6 @@ flags_stay n flags frames f off h = record {
   count = h.count;
   each = λ c l. h.each c l ∙ sym (ended_more frames f c ∙ ap (λ b. ended_ok frames c || ((f.cell == c) && b)) off ∙ ap (λ b. ended_ok frames c || b) (and_false (f.cell == c)) ∙ or_false (ended_ok frames c));
 }
-
-or_true : (b : Bool) → (b || true) ≡ true
-or_true true = refl
-or_true false = refl
 
 -- a cell's own flag, and the flag of another cell
 set_at : (flags : List Bool) (frames : List CellFrame) (f : CellFrame) (c : ℕ) (b : Bool) → (f.cell == c) ≡ b → f.cell < length flags → is_ok f.status ≡ true → slice_index_or flags c false ≡ ended_ok frames c → slice_index_or (slice_set flags f.cell true) c false ≡ (ended_ok frames c || (b && is_ok f.status))

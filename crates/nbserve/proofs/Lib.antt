@@ -1,3 +1,4 @@
+pub mod Booleans
 pub mod Bounds
 pub mod Cells
 pub mod Flags

@@ -1,28 +1,13 @@
 -- Names that are seen first are all names.
-use Rattle.std.proofs.Common.{◌≡◌, ◌∙◌, refl, sym, ap, subst, ℕ, Bool, true, false, cond, not, ◌&&◌, ◌||◌, List, [], ◌∷◌, ◌++◌}
+use Rattle.std.proofs.Common.{◌≡◌, ◌∙◌, refl, sym, ap, subst, Bool, true, false, cond, not, ◌&&◌, ◌||◌, List, [], ◌∷◌}
 use Rattle.std.specs.Prelude.{filter}
-use Rattle.std.specs.List.{list_any, list_all}
+use Rattle.std.specs.List.{list_all}
 use Rattle.std.specs.Str.{bytes_eq}
 use Rattle.std.proofs.lemmas.Slice.Eq.{bytes_eq-Decides}
 use Rattle.py_tree.specs.Names.{Name, is_among, first_seen, first_seen_after, is_local}
 use Rattle.py_tree.specs.Scope.{defs, bound}
 use Rattle.py_tree.specs.Trees.{Cell}
-
-or_known : (b c : Bool) → b ≡ true → (b || c) ≡ true
-or_known true c h = refl
-or_known false c h = let no : false ≡ true = h in absurd cc
-
-or_true : (b : Bool) → (b || true) ≡ true
-or_true true = refl
-or_true false = refl
-
-or_skip : (a b c : Bool) → (a ≡ true → c ≡ true) → (c || b) ≡ (c || (a || b))
-or_skip true b c h = ap (λ c. c || b) (h refl) ∙ sym (or_known c true (h refl))
-or_skip false b c h = refl
-
-or_turn : (a b c : Bool) → (c || (a || b)) ≡ ((a || c) || b)
-or_turn true b c = or_true c
-or_turn false b c = refl
+use Rattle.nbserve.proofs.Booleans.{both, or_skip, or_turn, not_false}
 
 known : (x name : Name) (seen : List Name) → is_among name seen ≡ true → bytes_eq name x ≡ true → is_among x seen ≡ true
 known x name seen among same = subst (λ n. is_among n seen ≡ true) ((bytes_eq-Decides name x).0 same) among
@@ -52,14 +37,6 @@ filter_all p (x ∷ xs) h = filter_more p x xs (p x) h (filter_all p xs)
 -- where no name with an underscore is bound, the names defined are those bound
 pub among_defs : (x : Name) (c : Cell) → list_all (λ y. not (is_local y)) (bound c.body) ≡ true → is_among x (defs c) ≡ is_among x (bound c.body)
 among_defs x c h = among_first_seen x (filter (λ y. not (is_local y)) (bound c.body)) ∙ ap (is_among x) (filter_all (λ y. not (is_local y)) (bound c.body) h)
-
-both : (a b : Bool) → (a && b) ≡ true → (a ≡ true) × (b ≡ true)
-both true b h = (refl, h)
-both false b h = let no : false ≡ true = h in absurd cc
-
-not_false : (b : Bool) → not b ≡ false → b ≡ true
-not_false true h = refl
-not_false false h = let no : true ≡ false = h in absurd cc
 
 plain_more : (x y : Name) (ys : List Name) (b : Bool) → bytes_eq y x ≡ b → not (is_local y) ≡ true → (b || is_among x ys) ≡ true → (is_among x ys ≡ true → not (is_local x) ≡ true) → not (is_local x) ≡ true
 plain_more x y ys true same h k rest = subst (λ n. not (is_local n) ≡ true) ((bytes_eq-Decides y x).0 same) h

@@ -1,10 +1,10 @@
 -- Notebooks that are refused for their graph.
-use Rattle.std.proofs.Common.{◌≡◌, ◌∙◌, refl, sym, subst, inr, List, ℕ}
+use Rattle.std.proofs.Common.{◌≡◌, refl, sym, subst, inr, List, ℕ}
 use Rattle.cell_graph.specs.Refused.{IsCauseOf}
 use Rattle.cell_graph.specs.declared.fault.GraphFault.{GraphFault}
 use Rattle.cell_graph.specs.declared.fault.GraphFault.TheVariants as graph
 use Rattle.notebook_meaning.specs.Graph.{NoneDoubled, NoneCyclic}
-use Rattle.notebook_meaning.specs.Once.{IsAccepted, IsRefused}
+use Rattle.notebook_meaning.specs.Once.{IsRefused}
 use Rattle.notebook_meaning.specs.Thin.{IsForm}
 use Rattle.py_tree.specs.Trees.{Cell}
 use Rattle.nbserve.specs.Unopened.{IsWhy, of_graph}

@@ -1,6 +1,6 @@
 -- One cell of the order, from what the code's parts answer.
-use Rattle.std.proofs.Common.{◌≡◌, ◌∙◌, refl, sym, ap, subst, ℕ, zero, suc, ◌+◌, ◌-◌, ◌<◌, ◌≤◌, Bool, true, false, not, List, [], ◌∷◌, ◌++◌, length, get_or, drop, drop-cons, add-one, ◌^◌, arith}
-use Rattle.std.specs.Prelude.{All, Option, Some, None, option_map, slice_get, slice_index_or, map, sum}
+use Rattle.std.proofs.Common.{◌≡◌, ◌∙◌, refl, sym, ap, subst, ℕ, zero, suc, ◌+◌, ◌-◌, ◌<◌, ◌≤◌, Bool, true, false, List, [], ◌∷◌, ◌++◌, length, get_or, drop, drop-cons, add-one, ◌^◌, arith}
+use Rattle.std.specs.Prelude.{All, Option, Some, option_map, slice_get, slice_index_or, sum}
 use Rattle.std.proofs.lemmas.List.Sums.{sum_by_push}
 use Rattle.notebook_meaning.specs.Thin.{are_thin}
 use Rattle.nbserve.proofs.ThinCode.{thin_few}
@@ -9,7 +9,7 @@ use Rattle.std.proofs.lemmas.List.{length-map}
 use Rattle.std.proofs.lemmas.Option.{slice_get-map, slice_get-get_or}
 use Rattle.notebook_meaning.specs.Graph as graph
 use Rattle.notebook_meaning.specs.Meaning.{Env}
-use Rattle.notebook_meaning.specs.Spending.{runs, cost_of}
+use Rattle.notebook_meaning.specs.Spending.{runs}
 use Rattle.notebook_meaning.specs.Whole as whole
 use Rattle.notebook_meaning.specs.declared.frames.CellFrame.{CellFrame}
 use Rattle.py_eval.specs.Shows.{scene_of}
@@ -20,7 +20,7 @@ use Rattle.py_tree.specs.declared.tree.CellCode.{CellCode}
 use Rattle.py_value.specs.declared.values.Value.{Value}
 use Rattle.py_value.specs.Maps.{Map}
 use Rattle.nbserve.specs.declared.progress.Progress.{Progress}
-use Rattle.nbserve.specs.Opened.{IsGood, AreFlags, progress_of, outcome_at, run_of}
+use Rattle.nbserve.specs.Opened.{IsGood, progress_of, outcome_at}
 use Rattle.nbserve.proofs.Bounds.{parents_below, order_below, order_length}
 use Rattle.nbserve.proofs.Flags.{all_flags}
 

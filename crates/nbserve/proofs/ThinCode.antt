@@ -1,37 +1,20 @@
 -- Code of the thin form is levelled, and binds no names with underscores.
-use Rattle.std.proofs.Common.{◌≡◌, ◌∙◌, refl, sym, ap, subst, ℕ, zero, suc, ◌+◌, ◌≤◌, ◌<◌, Bool, true, false, not, ◌&&◌, ◌||◌, List, [], ◌∷◌, ◌++◌, length, arith}
-use Rattle.std.specs.Prelude.{Option, Some, None, slice_get, ◌==◌, nat_le, nat_lt, sum_by, codes}
-use Rattle.std.specs.List.{list_any, list_all}
+use Rattle.std.proofs.Common.{◌≡◌, ◌∙◌, refl, sym, ap, subst, ℕ, zero, suc, ◌+◌, ◌≤◌, true, false, not, ◌&&◌, ◌||◌, List, [], ◌∷◌, ◌++◌, length, arith}
+use Rattle.std.specs.Prelude.{Some, None, slice_get, ◌==◌, nat_le, nat_lt, sum_by, codes}
+use Rattle.std.specs.List.{list_all}
 use Rattle.std.proofs.lemmas.List.Folds.{list_any-append, list_all-append}
 use Rattle.std.proofs.lemmas.Bool.Decides.{nat_tests}
 use Rattle.std.proofs.lemmas.List.Sums.{sum_by-cons}
 use Rattle.std.specs.Str.{bytes_eq}
 use Rattle.py_tree.specs.Names.{Name, is_among, is_local, is_lower, is_upper, is_digit, begins_name, continues_name, is_spelled_name, is_identifier, keywords, unused_keywords, builtins}
-use Rattle.py_tree.specs.Levels.{level, is_literal, is_levelled, is_levelled_head, are_targets, are_levelled}
+use Rattle.py_tree.specs.Levels.{level, is_levelled, is_levelled_head, are_targets, are_levelled}
 use Rattle.py_tree.specs.Scope.{bound, head_binds}
 use Rattle.py_tree.specs.Trees.{Tree, literal, name, sum, Head, value, assign, stmt, Stmts, end, then_comes, Cell}
 use Rattle.notebook_meaning.specs.Thin.{reserved, is_plain_name, is_name, is_term, is_chain, terms, is_sum, is_target, is_line, is_empty, are_lines, line_count, is_cell, are_cells, are_thin}
-
-both : (a b : Bool) → (a && b) ≡ true → (a ≡ true) × (b ≡ true)
-both true b h = (refl, h)
-both false b h = let no : false ≡ true = h in absurd cc
-
-and_true : (a b : Bool) → a ≡ true → b ≡ true → (a && b) ≡ true
-and_true a b h k = ap (λ c. c && b) h ∙ k
+use Rattle.nbserve.proofs.Booleans.{both, and_true, not_or, three_of_four}
 
 lower_begins : (c : ℕ) → is_lower c ≡ true → begins_name c ≡ true
 lower_begins c h = ap (λ b. (b || is_upper c) || (c == 95)) h
-
-any_true : (a b : Bool) → b ≡ true → (a || b) ≡ true
-any_true true b h = refl
-any_true false b h = h
-
--- one test of three is one of four
-three_of_four : (a b c u : Bool) → ((a || b) || c) ≡ true → (((a || u) || c) || b) ≡ true
-three_of_four true b c u h = refl
-three_of_four false true c u h = any_true ((u || c)) true refl
-three_of_four false false true u h = ap (λ t. t || false) (any_true u true refl)
-three_of_four false false false u h = let no : false ≡ true = h in absurd cc
 
 tail_continues : (cs : List ℕ) → list_all (λ d. is_lower d || is_digit d || (d == 95)) cs ≡ true → list_all continues_name cs ≡ true
 tail_continues [] h = refl
@@ -43,10 +26,6 @@ plain_spelled : (x : Name) → is_plain_name x ≡ true → is_spelled_name x �
 plain_spelled [] h = h
 plain_spelled (c ∷ cs) h = let p = both (is_lower c) (list_all (λ d. is_lower d || is_digit d || (d == 95)) cs) h in
     and_true (begins_name c) (list_all continues_name cs) (lower_begins c p.0) (tail_continues cs p.1)
-
-not_or : (a b : Bool) → not (a || b) ≡ true → (not a ≡ true) × (not b ≡ true)
-not_or true b h = let no : false ≡ true = h in absurd cc
-not_or false b h = (refl, h)
 
 -- the name is among the front of a list, or among the rest
 front : (x : Name) (xs ys : List Name) → not (is_among x (xs ++ ys)) ≡ true → (not (is_among x xs) ≡ true) × (not (is_among x ys) ≡ true)

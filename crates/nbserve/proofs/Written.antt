@@ -1,5 +1,5 @@
 -- What was written at each status.
-use Rattle.std.proofs.Common.{◌≡◌, ◌∙◌, refl, sym, ap, subst, inl, inr, ◌⊎◌, ℕ, ◌+◌, ◌≤◌, List, [], ◌∷◌, ◌++◌, append-nil, codes, lit≤, arith}
+use Rattle.std.proofs.Common.{◌≡◌, ◌∙◌, refl, sym, ap, subst, inl, inr, ◌⊎◌, ℕ, ◌≤◌, List, [], lit≤, arith}
 use Rattle.std.specs.Prelude.{Option, Some, None, IfSome}
 use Rattle.link_io.specs.Outside.{Took}
 use Rattle.link_io.proofs.Taken.{took_none}

@@ -1,5 +1,5 @@
 -- What the opening keeps.
-use Rattle.std.specs.Prelude.{◌≡◌, ℕ, ◌<◌, Bool, false, not, List, [], ◌∷◌, ◌++◌, length, slice_index_or, Option, Some, None, option_map}
+use Rattle.std.specs.Prelude.{◌≡◌, ℕ, ◌<◌, Bool, false, not, List, [], length, slice_index_or, Option, Some, None, option_map}
 use Rattle.std.specs.List.{list_all}
 use Rattle.notebook_meaning.specs.declared.frames.CellError.{CellError}
 use Rattle.notebook_meaning.specs.declared.frames.CellFrame.{CellFrame}

@@ -99,6 +99,16 @@ const CHAIN_FRAMES: &[u8] =
 {\"done\":3}
 ";
 
+// The words over the file of three cells.
+fn with_words<'a>(words: &'a [&'a str]) -> Case<'a> {
+    Case {
+        words,
+        text: CHAIN,
+        room: 1_000_000,
+        failing: &[],
+    }
+}
+
 #[test]
 fn opens_notebooks(rt: HostRuntime) -> Result<(), Fail> {
     let cases: [(&[u8], &[u8]); 4] = [
@@ -150,9 +160,7 @@ fn answers_words_that_are_no_form(rt: HostRuntime) -> Result<(), Fail> {
         &["--help"],
     ];
     for words in cases {
-        let mut case = opened(CHAIN);
-        case.words = words;
-        let answer = answered(rt.alloc(), case)?;
+        let answer = answered(rt.alloc(), with_words(words))?;
         assert_eq!(rt; answer.status, 2);
         assert_eq!(rt; answer.written.as_slice(), b"usage\n".as_slice());
     }
@@ -161,21 +169,27 @@ fn answers_words_that_are_no_form(rt: HostRuntime) -> Result<(), Fail> {
 
 #[test]
 fn tells_faults(rt: HostRuntime) -> Result<(), Fail> {
-    let mut unknown = opened(CHAIN);
-    unknown.words = &["once", "other.py"];
-    let answer = answered(rt.alloc(), unknown)?;
+    let answer = answered(rt.alloc(), with_words(&["once", "other.py"]))?;
     assert_eq!(rt; answer.status, 3);
     assert_eq!(rt; answer.written.as_slice(), b"read fault\n".as_slice());
 
-    let mut failing = opened(CHAIN);
-    failing.failing = &[2];
+    let failing = Case {
+        words: ONCE,
+        text: CHAIN,
+        room: 1_000_000,
+        failing: &[2],
+    };
     let answer = answered(rt.alloc(), failing)?;
     assert_eq!(rt; answer.status, 3);
     assert_eq!(rt; answer.written.as_slice(), b"read fault\n".as_slice());
 
     // Room for exactly the first two lines.
-    let mut full = opened(CHAIN);
-    full.room = 130;
+    let full = Case {
+        words: ONCE,
+        text: CHAIN,
+        room: 130,
+        failing: &[],
+    };
     let answer = answered(rt.alloc(), full)?;
     assert_eq!(rt; answer.status, 4);
     assert_eq!(rt; answer.written.len(), 130);

@@ -1,5 +1,5 @@
 -- A full order leaves no cycle, and a short one leaves some.
-use Rattle.std.proofs.Common.{◌≡◌, ◌<◌, List, ℕ, length, sym, ap, subst, arith}
+use Rattle.std.proofs.Common.{◌≡◌, ◌<◌, List, ℕ, length, sym, ap, subst, rules, arith}
 use Rattle.std.proofs.lemmas.List.{length-map}
 use Rattle.py_tree.specs.Trees.{Cell}
 use Rattle.py_tree.specs.View.{view_cell, view_cells}
@@ -21,6 +21,14 @@ returns-then-len-clause-refused c =
     let size = length-map c.args.cells.items view_cell in
     let short : length (order nb) < length nb = omega (arith, ap length ordered) in
     (search (arith, c.in_ok-above.ensures.once), λ free. short_is_cyclic nb short free)
+
+pub invariant_of-result : goal.invariant_of-result
+invariant_of-result c =
+    let nb : List Cell = view_cells c.args.cells.items in
+    let ordered = c.in_ok-ordered.ensures nb (search (arith, c.in_ok-above.ensures.parents)) in
+    let size = length-map c.args.cells.items view_cell in
+    let full : length (order nb) ≡ length nb = omega (arith, ap length ordered, order_fits nb) in
+    (c.requires, search (rules, arith), search (arith, c.in_ok-above.ensures.parents), ordered, search (arith, c.in_ok-above.ensures.once), full_is_free nb full)
 
 pub returns-clause-free : goal.returns-clause-free
 returns-clause-free c =

@@ -38,12 +38,12 @@ returns-then-not-all_ok-clause-plain g c = plain_without c.defs_of-defs.result.n
 
 pub run_cell-requires-clause-levelled : goal.run_cell-requires-clause-levelled
 run_cell-requires-clause-levelled g c =
-    let at = code_at c.args.notebook.now c.args.cell c.index-cells-cell.result c.requires.there (c.index-cells-cell.is ∙ ap (λ xs. get_or xs c.args.cell c.index-cells-cell.result) c.cells.ensures) in
+    let at = code_at c.args.notebook.now c.args.cell c.index-cells-cell.result c.requires.there (c.index-cells-cell.is ∙ ap (λ xs. get_or xs c.args.cell c.index-cells-cell.result) c.cells.ensures.cells) in
     (thin_good (view_cells c.args.notebook.now) c.args.cell (view_cell c.index-cells-cell.result) c.requires.thin at).0
 
 pub run_cell-requires-clause-plain_code : goal.run_cell-requires-clause-plain_code
 run_cell-requires-clause-plain_code g c =
-    let at = code_at c.args.notebook.now c.args.cell c.index-cells-cell.result c.requires.there (c.index-cells-cell.is ∙ ap (λ xs. get_or xs c.args.cell c.index-cells-cell.result) c.cells.ensures) in
+    let at = code_at c.args.notebook.now c.args.cell c.index-cells-cell.result c.requires.there (c.index-cells-cell.is ∙ ap (λ xs. get_or xs c.args.cell c.index-cells-cell.result) c.cells.ensures.cells) in
     (thin_good (view_cells c.args.notebook.now) c.args.cell (view_cell c.index-cells-cell.result) c.requires.thin at).1
 
 pub run_cell-requires-clause-plain : goal.run_cell-requires-clause-plain
@@ -51,13 +51,13 @@ run_cell-requires-clause-plain g c = plain_without c.defs_of-defs.result.now c.a
 
 pub run_cell-requires-clause-defs : goal.run_cell-requires-clause-defs
 run_cell-requires-clause-defs g c =
-    let at = code_at c.args.notebook.now c.args.cell c.index-cells-cell.result c.requires.there (c.index-cells-cell.is ∙ ap (λ xs. get_or xs c.args.cell c.index-cells-cell.result) c.cells.ensures) in
+    let at = code_at c.args.notebook.now c.args.cell c.index-cells-cell.result c.requires.there (c.index-cells-cell.is ∙ ap (λ xs. get_or xs c.args.cell c.index-cells-cell.result) c.cells.ensures.cells) in
     c.defs_of-defs.ensures ∙ defs_are (view_cells c.args.notebook.now) c.args.cell (view_cell c.index-cells-cell.result) at
 
 pub run_cell-requires-clause-removed : goal.run_cell-requires-clause-removed
 run_cell-requires-clause-removed g c =
     let code = view_cell c.index-cells-cell.result in
-    let at = code_at c.args.notebook.now c.args.cell c.index-cells-cell.result c.requires.there (c.index-cells-cell.is ∙ ap (λ xs. get_or xs c.args.cell c.index-cells-cell.result) c.cells.ensures) in
+    let at = code_at c.args.notebook.now c.args.cell c.index-cells-cell.result c.requires.there (c.index-cells-cell.is ∙ ap (λ xs. get_or xs c.args.cell c.index-cells-cell.result) c.cells.ensures.cells) in
     let is = c.forget.ensures ∙ ap (λ ns. where_name (λ x. not (is_among x ns)) c.args.self.now.env) (c.defs_of-defs.ensures ∙ defs_are (view_cells c.args.notebook.now) c.args.cell code at) in
     subst (λ env. whole.without_defs code env ≡ env) (sym is) (removed_again code c.args.self.now.env)
 
@@ -65,7 +65,7 @@ pub returns-clause-frame : goal.returns-clause-frame
 returns-clause-frame g c =
     let nb = view_cells c.args.notebook.now in
     let code = view_cell c.index-cells-cell.result in
-    let at = code_at c.args.notebook.now c.args.cell c.index-cells-cell.result c.requires.there (c.index-cells-cell.is ∙ ap (λ xs. get_or xs c.args.cell c.index-cells-cell.result) c.cells.ensures) in
+    let at = code_at c.args.notebook.now c.args.cell c.index-cells-cell.result c.requires.there (c.index-cells-cell.is ∙ ap (λ xs. get_or xs c.args.cell c.index-cells-cell.result) c.cells.ensures.cells) in
     let is = c.forget.ensures ∙ ap (λ ns. where_name (λ x. not (is_among x ns)) c.args.self.now.env) (c.defs_of-defs.ensures ∙ defs_are nb c.args.cell code at) in
     let on = may_run c.args.notebook.now c.args.self.now c.args.cell c.as_slice.result.now c.parents.result.now _ c.requires.good c.as_slice.ensures.value c.parents.ensures (sym c.if-not-all_ok.false ∙ c.all_ok.ensures) in
     let outcome = ran_outcome nb (length c.args.notebook.now) c.args.self.now c.args.cell code c.forget.new.env c.requires.good on is in
@@ -76,7 +76,7 @@ pub returns-clause-env : goal.returns-clause-env
 returns-clause-env g c =
     let nb = view_cells c.args.notebook.now in
     let code = view_cell c.index-cells-cell.result in
-    let at = code_at c.args.notebook.now c.args.cell c.index-cells-cell.result c.requires.there (c.index-cells-cell.is ∙ ap (λ xs. get_or xs c.args.cell c.index-cells-cell.result) c.cells.ensures) in
+    let at = code_at c.args.notebook.now c.args.cell c.index-cells-cell.result c.requires.there (c.index-cells-cell.is ∙ ap (λ xs. get_or xs c.args.cell c.index-cells-cell.result) c.cells.ensures.cells) in
     let is = c.forget.ensures ∙ ap (λ ns. where_name (λ x. not (is_among x ns)) c.args.self.now.env) (c.defs_of-defs.ensures ∙ defs_are nb c.args.cell code at) in
     let on = may_run c.args.notebook.now c.args.self.now c.args.cell c.as_slice.result.now c.parents.result.now _ c.requires.good c.as_slice.ensures.value c.parents.ensures (sym c.if-not-all_ok.false ∙ c.all_ok.ensures) in
     let outcome = ran_outcome nb (length c.args.notebook.now) c.args.self.now c.args.cell code c.forget.new.env c.requires.good on is in
@@ -87,7 +87,7 @@ pub returns-clause-steps : goal.returns-clause-steps
 returns-clause-steps g c =
     let nb = view_cells c.args.notebook.now in
     let code = view_cell c.index-cells-cell.result in
-    let at = code_at c.args.notebook.now c.args.cell c.index-cells-cell.result c.requires.there (c.index-cells-cell.is ∙ ap (λ xs. get_or xs c.args.cell c.index-cells-cell.result) c.cells.ensures) in
+    let at = code_at c.args.notebook.now c.args.cell c.index-cells-cell.result c.requires.there (c.index-cells-cell.is ∙ ap (λ xs. get_or xs c.args.cell c.index-cells-cell.result) c.cells.ensures.cells) in
     let is = c.forget.ensures ∙ ap (λ ns. where_name (λ x. not (is_among x ns)) c.args.self.now.env) (c.defs_of-defs.ensures ∙ defs_are nb c.args.cell code at) in
     let on = may_run c.args.notebook.now c.args.self.now c.args.cell c.as_slice.result.now c.parents.result.now _ c.requires.good c.as_slice.ensures.value c.parents.ensures (sym c.if-not-all_ok.false ∙ c.all_ok.ensures) in
     let outcome = ran_outcome nb (length c.args.notebook.now) c.args.self.now c.args.cell code c.forget.new.env c.requires.good on is in

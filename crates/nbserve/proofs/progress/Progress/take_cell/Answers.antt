@@ -1,5 +1,5 @@
 -- The cell's result is kept.
-use Rattle.std.proofs.Common.{◌≡◌, ◌∙◌, sym, ap, ◌+◌, ◌++◌, ◌∷◌, [], arith}
+use Rattle.std.proofs.Common.{◌∙◌, ap, ◌++◌, ◌∷◌, [], arith}
 use Rattle.std.proofs.lemmas.List.{length-map}
 use Rattle.py_tree.specs.View.{view_cell, view_cells}
 use Rattle.nbserve.specs.declared.progress.Progress.{Progress}
