@@ -63,3 +63,22 @@ impl<V: Drop> NameMap<V> {
         self.inner.remove(name)
     }
 }
+
+#[cfg(test)]
+mod tests {
+    use super::*;
+    use std::test::Fail;
+
+    #[test]
+    fn has_what_was_put(rt: HostRuntime) -> Result<(), Fail> {
+        let alloc = rt.alloc();
+        let mut map: NameMap<u8> = NameMap::new(alloc);
+        map.put(Text::of(String::from_str(alloc, "b")?), 1)?;
+        map.put(Text::of(String::from_str(alloc, "a")?), 2)?;
+        map.put(Text::of(String::from_str(alloc, "b")?), 3)?;
+        assert!(rt; matches!(map.get("a"), Some(2)));
+        assert_eq!(rt; map.remove("b"), Some(3));
+        assert!(rt; map.get("b").is_none());
+        Ok(())
+    }
+}
