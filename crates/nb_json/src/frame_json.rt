@@ -1,6 +1,6 @@
 // The text of frames.
 ghost use Rattle.std.specs.Prelude.{◌≡◌, ◌∷◌, ◌++◌, OnOk, flat_map, map};
-ghost use Rattle.notebook_meaning.specs.FrameText.{quoted, array, kind_name, status_name, output_name, error_text, output_text, cell_text, refusal_text, named_refusal_text, frame_text};
+ghost use Rattle.notebook_meaning.specs.FrameText.{quoted, array, kind_name, status_name, output_name, error_text, output_text, cell_text, refused_text, named_refused_text, frame_text};
 
 use crate::json_text::{push_number, push_quoted};
 use notebook_meaning::{CellError, CellFrame, Frame, Output, OutputKind, Status};
@@ -134,7 +134,7 @@ fn push_done(alloc: Global, out: &mut Vec<u8>, count: u32) -> Result<(), AllocEr
 
 // A refusal that has to do with the element of a name.
 fn push_named_refusal(out: &mut Vec<u8>, name: &Text, what: &[u8]) -> Result<(), AllocError>
-    ensures { OnOk result (out.new.items ≡ out.old.items ++ named_refusal_text name.now what.now) }
+    ensures { OnOk result (out.new.items ≡ out.old.items ++ named_refused_text name.now what.now) }
 {
     out.extend_from_slice(b"{\"name\":")?;
     push_quoted(out, name.items().as_bytes())?;
@@ -143,7 +143,8 @@ fn push_named_refusal(out: &mut Vec<u8>, name: &Text, what: &[u8]) -> Result<(),
     out.extend_from_slice(b"}")
 }
 
-/// Appends the text of a frame: compact JSON (RFC 8259), the members of each object in the order of their names.
+/// Appends the text of a frame: compact JSON (RFC 8259), the members of each object in the order of their names. After `Memory`
+/// nothing is said of what was appended.
 pub fn push_frame(alloc: Global, out: &mut Vec<u8>, frame: &Frame) -> Result<(), Memory>
     ensures { OnOk result (out.new.items ≡ out.old.items ++ frame_text frame.now) }
 {

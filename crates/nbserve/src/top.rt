@@ -16,16 +16,18 @@ use std::sync::ledger::Ledger;
 // The greatest number of bytes of a notebook's file.
 const BYTE_LIMIT: u64 = 1_048_576;
 
+// The program's statuses.
 const DONE: u8 = 0;
 
 const REFUSED: u8 = 1;
 
-pub const USAGE: u8 = 2;
+const USAGE: u8 = 2;
 
 const READ_FAULT: u8 = 3;
 
 const WRITE_FAULT: u8 = 4;
 
+/// Memory was wanting.
 pub const WANT_OF_MEMORY: u8 = 5;
 
 // Writes the text of a status, and answers the status, or that the text couldn't be written.

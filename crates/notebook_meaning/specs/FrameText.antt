@@ -89,19 +89,19 @@ cell_text f =
     )
 
 -- a refusal says what was refused, and for an element its name
-abbrev pub refusal_text : List ℕ → List ℕ
-refusal_text what = object (member (codes "refused") (quoted what) ∷ [])
+abbrev pub refused_text : List ℕ → List ℕ
+refused_text what = object (member (codes "refused") (quoted what) ∷ [])
 
-abbrev pub named_refusal_text : List ℕ → List ℕ → List ℕ
-named_refusal_text name what = object (member (codes "name") (quoted name) ∷ member (codes "refused") (quoted what) ∷ [])
+abbrev pub named_refused_text : List ℕ → List ℕ → List ℕ
+named_refused_text name what = object (member (codes "name") (quoted name) ∷ member (codes "refused") (quoted what) ∷ [])
 
 abbrev pub frame_text : Frame → List ℕ
 frame_text (frame.Cell f) = cell_text f
 frame_text (frame.Done n) = object (member (codes "done") (decimal n) ∷ [])
-frame_text frame.BadMessage = refusal_text (codes "message")
-frame_text frame.BadOrder = refusal_text (codes "order")
-frame_text (frame.NoElement name) = named_refusal_text name (codes "element")
-frame_text (frame.NoValue name) = named_refusal_text name (codes "value")
+frame_text frame.BadMessage = refused_text (codes "message")
+frame_text frame.BadOrder = refused_text (codes "order")
+frame_text (frame.NoElement name) = named_refused_text name (codes "element")
+frame_text (frame.NoValue name) = named_refused_text name (codes "value")
 
 -- one frame per line
 abbrev pub frame_lines : List Frame → List ℕ
