@@ -10,7 +10,7 @@ use py_tree::CellCode;
 use py_value::{Lines, Memory};
 use std::alloc::Global;
 
-/// The names that a cell defines, each once, in the order of their first tokens: those that it binds outside functions and that
+/// The names that a cell defines, each once, in the order of their first tokens: those that it binds at cell scope and that
 /// don't begin with `_` (marimo's documentation, "Reactivity"; Python language reference, section 4.2).
 pub fn defs(alloc: Global, cell: &CellCode) -> Result<Lines, Memory>
     ensures { IfOk result (λ names. names ≡ scope.defs (view_cell cell.now)) }

@@ -7,7 +7,7 @@ ghost use Rattle.py_tree.specs.Scope as scope;
 use crate::name_set::has;
 use indexmap::IndexSet;
 
-// The names of Python's library that notebook code may call.
+// The builtins of the language.
 const BUILTINS: [&str; 19] = [
     "abs",
     "all",

@@ -8,8 +8,8 @@ use py_tree::CellCode;
 use py_value::Lines;
 use std::marker::Model;
 
-/// A notebook: cells with their graph, no name of which is defined in two cells, and none of which lies on a cycle. Contracts
-/// see it as its cells in file order.
+/// A notebook: cells with their graph. No name is defined in two of them, and none of them lies on a cycle. Contracts see it as
+/// its cells in file order.
 #[derive(Drop)]
 pub struct Notebook {
     pub(crate) cells: Vec<CellCode>,

@@ -46,7 +46,7 @@ fn error_of(end: End) -> Option<CellError>
     }
 }
 
-/// The result of a cell that ran (marimo's documentation, "Running apps").
+/// The frame of a cell that ran.
 pub fn ran_frame(alloc: Global, cell: u32, ran: Ran) -> Result<CellFrame, Memory>
     ensures { IfOk result (λ frame. frame ≡ frame_after cell ran) }
 {

@@ -21,7 +21,7 @@ use std::process::ExitCode;
 use std::sync::ledger::{Blank, Ledger};
 use top::{WANT_OF_MEMORY, run_words};
 
-// Runs the program over the files of the system and the standard output. Its steps count for nobody.
+// Runs the program over the files of the system and the standard output. Nothing reads the count of its steps.
 fn run_really<L: Ledger>(rt: &HostRuntime, words: &[String], blank: Blank) -> u8
     requires { (blank.name ≡ L.name) × (blank.parts ≡ L.parts) × (0 < blank.parts) }
 {

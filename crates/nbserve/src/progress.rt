@@ -38,7 +38,7 @@ fn all_ok(cells: &[u32], ok: &[bool]) -> bool
     cells.iter().all(|c| ok[*c as usize])
 }
 
-// What a cell leaves bound after its run: nothing that it defines where it isn't ok.
+// Unbinds what a cell defines, unless it ended ok.
 fn settle(env: &mut Env, defs: &Lines, end: End)
     ensures { env.new ≡ settled end defs.now env.old }
 {

@@ -86,7 +86,7 @@ pub fn run_words<F: Files, O: Sink, L: Ledger>(
     ensures range { result ≤ 5 }
 
     // What was written: the frames of the opening at 0, why the notebook is refused at 1, `usage` at 2, `read fault` at 3, and a
-    // beginning of one of these at 4 and 5. It says of 0, 1 and 2 when they come, too.
+    // beginning of one of these at 4 and 5. It also says what 0, 1 and 2 tell of the words and of the file.
     ensures wrote { Wrote (F.holds files.old) (Rose (F.faults files.old) (F.faults files.new)) (Rose (O.faults out.old) (O.faults out.new))
         (map string_bytes words.now) result (O.taken out.old) (O.taken out.new) }
 

@@ -1,4 +1,4 @@
-// Notebooks that aren't opened.
+// The opening of a notebook's bytes, and why one isn't opened.
 ghost use Rattle.std.specs.Prelude.{◌≡◌, IfErr, IfOk};
 ghost use Rattle.nbserve.specs.Unopened.{IsOpening, IsWhy, of_form, of_graph};
 

@@ -7,9 +7,10 @@ ghost use Rattle.notebook_meaning.specs.Runs.{HasOneRun};
 ghost use Rattle.notebook_meaning.specs.Whole.{whole};
 ghost use Rattle.notebook_meaning.specs.Thin.{are_thin, file_lines, text_of};
 ghost use Rattle.notebook_meaning.specs.Once.{IsAccepted, usual_budget, once_text};
-ghost use Rattle.notebook_meaning.specs.Samples.{three_cells, three_cells_file, three_cells_text, lone_name, lone_name_text, failing, failing_text, doubled, cyclic};
+ghost use Rattle.notebook_meaning.specs.Samples.{three_cells, three_cells_file, three_cells_text, lone_name, lone_name_text, failing, failing_text, doubled, cyclic, diamond, too_great, too_great_text, four_steps};
+ghost use Rattle.notebook_meaning.specs.Spending.{Spent, runs, cost_of};
 
-/// The order has as many cells as the notebook just where no cell lies on a cycle.
+/// No cell lies on a cycle where the order has as many places as there are cells; it can't be that none does where it has fewer.
 pub fn order_and_cycles()
     ensures full { (nb : List Cell) → length (order nb) ≡ length nb → NoneCyclic nb }
     ensures short { (nb : List Cell) → length (order nb) < length nb → NoneCyclic nb → ⊥ }
@@ -37,4 +38,9 @@ pub fn worked_notebooks()
     ensures blocked { order cyclic ≡ [] }
     ensures cycle { LiesOnCycle cyclic 0 }
     ensures aside { LiesOnCycle cyclic 3 → ⊥ }
+    ensures diamond { order diamond ≡ 3 ∷ 1 ∷ 2 ∷ 0 ∷ [] }
+    ensures range { once_text too_great ≡ too_great_text }
+    ensures range_costs { (whole too_great usual_budget []).costs ≡ 2 ∷ 4 ∷ 0 ∷ 2 ∷ [] }
+    ensures fits { cost_of 4 (runs (record { own = []; present = [] }) [] four_steps 4) ≡ 4 }
+    ensures spent { runs (record { own = []; present = [] }) [] four_steps 3 ≡ Spent 5 0 [] }
 {}

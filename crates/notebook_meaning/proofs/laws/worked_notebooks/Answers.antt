@@ -64,3 +64,19 @@ none_on (d ∷ ds) c chain = both_ways _ (none_from_last d) chain.0
 
 pub returns-clause-aside : goal.returns-clause-aside
 returns-clause-aside c = λ cycle. none_on cycle.0 3 cycle.1
+
+pub returns-clause-range : goal.returns-clause-range
+unfolding digits pay show
+returns-clause-range c = refl
+
+pub returns-clause-range_costs : goal.returns-clause-range_costs
+unfolding pay show
+returns-clause-range_costs c = refl
+
+pub returns-clause-fits : goal.returns-clause-fits
+unfolding pay show
+returns-clause-fits c = refl
+
+pub returns-clause-spent : goal.returns-clause-spent
+unfolding pay show
+returns-clause-spent c = refl
