@@ -2,14 +2,17 @@
 ghost use Rattle.std.specs.Prelude.{◌≡◌, ◌≤◌, None, length, IfOk};
 
 use crate::files::{Failed, Files};
+use arrayvec::ArrayString;
 use std::fs::File;
 use std::io::{ErrorKind, Read, Seek, SeekFrom};
 use std::rt::Files as SystemFiles;
 
+// The most bytes of a path; the system opens no longer one (Linux, `PATH_MAX`).
+const PATH_BYTES: usize = 4096;
+
 // An open file, and the place that its next byte comes from.
 #[derive(Drop)]
 struct Opened<F> {
-    name: String,
     file: F,
     at: u64,
 }
@@ -19,6 +22,7 @@ struct Opened<F> {
 #[derive(Drop)]
 pub struct RealFiles<R: SystemFiles> {
     runtime: R,
+    name: ArrayString<PATH_BYTES>,
     last: Option<Opened<R::File>>,
     faults: u64,
 }
@@ -40,34 +44,34 @@ fn read_some<S: Read>(source: &mut S, buf: &mut [u8]) -> Result<usize, Failed>
     Err(Failed)
 }
 
-impl<R: SystemFiles + AllocGlobal> RealFiles<R> {
+impl<R: SystemFiles> RealFiles<R> {
     /// No file is open yet.
     pub fn new(runtime: R) -> Self
         ensures { result.faults ≡ 0 }
     {
         RealFiles {
             runtime,
+            name: ArrayString::new(),
             last: None,
             faults: 0,
         }
     }
 
     // Opens a file at a place. Only a place past the beginning needs a seek.
-    fn open(&self, name: &str, from: u64) -> Result<Opened<R::File>, Failed> {
-        let Ok(name) = String::from_str(self.runtime.alloc(), name) else {
+    fn open(&mut self, name: &str, from: u64) -> Result<Opened<R::File>, Failed>
+        ensures { self.new.faults ≡ self.old.faults }
+    {
+        let Ok(kept) = ArrayString::from(name) else {
             return Err(Failed);
         };
-        let Ok(mut file) = File::open(&self.runtime, &name) else {
+        self.name = kept;
+        let Ok(mut file) = File::open(&self.runtime, name) else {
             return Err(Failed);
         };
         if from > 0 && file.seek(SeekFrom::Start(from)).is_err() {
             return Err(Failed);
         }
-        Ok(Opened {
-            name,
-            file,
-            at: from,
-        })
+        Ok(Opened { file, at: from })
     }
 
     // The file at a place: the one that was read last, where it stands there, or else opened anew.
@@ -75,7 +79,7 @@ impl<R: SystemFiles + AllocGlobal> RealFiles<R> {
         ensures { self.new.faults ≡ self.old.faults }
     {
         if let Some(opened) = self.last.take() {
-            if opened.at == from && opened.name.as_str() == name {
+            if opened.at == from && self.name.as_str() == name {
                 return Ok(opened);
             }
         }
@@ -95,7 +99,7 @@ impl<R: SystemFiles + AllocGlobal> RealFiles<R> {
     }
 }
 
-impl<R: SystemFiles + AllocGlobal> Files for RealFiles<R> {
+impl<R: SystemFiles> Files for RealFiles<R> {
     ghost holds = { λ files name. None };
 
     ghost faults = { λ files. files.faults };
