@@ -1,27 +1,25 @@
 -- Lists of the names that cells define, and the graph of these cells.
-use Rattle.std.proofs.Common.{◌≡◌, ℕ, zero, suc, ◌+◌, ◌<◌, ◌≤◌, Bool, true, false, cond, ◌&&◌, ⊎_elim, List, [], ◌∷◌, ◌++◌, length, map, filter, find, Option, Some, None, slice_get, get_or, refl, sym, ap, ◌∙◌, subst, arith}
+use Rattle.std.proofs.Common.{◌≡◌, ℕ, zero, suc, ◌+◌, ◌<◌, ◌≤◌, Bool, true, false, cond, ◌&&◌, ⊎_elim, List, [], ◌∷◌, ◌++◌, length, map, filter, find, Option, Some, None, slice_get, get_or, take, refl, sym, ap, ◌∙◌, subst, arith}
 use Rattle.std.specs.Prelude.{nat_lt}
 use Rattle.std.specs.Option.{unwrap_or}
 use Rattle.std.specs.List.{list_any}
 use Rattle.std.specs.Str.{bytes_eq}
 use Rattle.std.proofs.lemmas.Bool.{both_ways, cases_Bool, cases_lt, cases_eq, and_parts, and_from, or_cases, or_left, or_right, false_from_ne_true, lt-ltb, ltb-true}
-use Rattle.std.proofs.lemmas.List.{length-map}
+use Rattle.std.proofs.lemmas.List.{length-map, length_push, length-append}
 use Rattle.std.proofs.lemmas.Option.{slice_get-get_or, slice_get_past}
 use Rattle.std.proofs.lemmas.Slice.Eq.{bytes_eq-Decides}
 use Rattle.py_tree.specs.Names.{Name, is_among}
 use Rattle.py_tree.specs.Scope.{defs, refs}
 use Rattle.py_tree.specs.Trees.{Cell}
-use Rattle.notebook_meaning.specs.Graph.{names_at, defs_of, refs_of, numbers_from, all_cells, parents, defined_before, NoneDoubled}
-use Rattle.cell_graph.specs.Definers.{names_in, FindsLists, IsInTwo, IsCauseIn, lists_with}
-use Rattle.cell_graph.specs.Kept.{AreDefs, AreParents}
-use Rattle.cell_graph.specs.Refused.{IsCauseOf}
-use Rattle.cell_graph.specs.declared.fault.GraphFault.{GraphFault}
-use Rattle.cell_graph.specs.declared.fault.GraphFault.TheVariants.{Doubly, Cycle, Memory}
-use Rattle.cell_graph.proofs.LookUps.{within}
+use Rattle.notebook_meaning.specs.Graph.{names_at, defs_of, refs_of, numbers_from, all_cells, parents, order, defined_before, IsDoubled, NoneDoubled, AreCyclic}
+use Rattle.notebook_meaning.proofs.Orders.{short_is_cyclic}
+use Rattle.cell_graph.specs.Definers.{names_in, FindsLists, lists_with}
+use Rattle.cell_graph.specs.Kept.{AreDefs, AreRefs, AreParents}
+use Rattle.cell_graph.proofs.LookUps.{in_earlier, in_next, within}
 use Rattle.cell_graph.proofs.Names.{filter_alike}
 use Rattle.cell_graph.proofs.Numbers.{numbers_alike}
 
-map_at : {Y : Type 0} (f : Cell → Y) (nb : List Cell) (c : ℕ) (y : Y) → slice_get (map f nb) c ≡ Some y → (cell : Cell) × (slice_get nb c ≡ Some cell) × (f cell ≡ y)
+map_at : {X Y : Type 0} (f : X → Y) (xs : List X) (c : ℕ) (y : Y) → slice_get (map f xs) c ≡ Some y → (x : X) × (slice_get xs c ≡ Some x) × (f x ≡ y)
 map_at f [] c y h = let bad : None ≡ Some y = h in absurd cc
 map_at f (x ∷ xs) zero y h = let e : Some (f x) ≡ Some y = h in (x, refl, cc)
 map_at f (x ∷ xs) (suc c) y h = map_at f xs c y h
@@ -36,6 +34,13 @@ pub are_defs : (nb : List Cell) → AreDefs nb (map defs nb)
 are_defs nb = record {
   count = length-map nb defs;
   each = λ c names h. let p = map_at defs nb c names h in sym p.2 ∙ ap (names_at defs) (sym p.1);
+}
+
+-- and so are the references
+pub are_refs : (nb : List Cell) → AreRefs nb (map refs nb)
+are_refs nb = record {
+  count = length-map nb refs;
+  each = λ c names h. let p = map_at refs nb c names h in sym p.2 ∙ ap (names_at refs) (sym p.1);
 }
 
 -- ---- tests of lists
@@ -55,16 +60,30 @@ none_found p (x ∷ xs) h =
     ap (λ b. cond b (Some x) (find p xs)) (h x (or_left _ _ (is_itself x)))
     ∙ none_found p xs (λ y later. h y (or_right (bytes_eq x y) _ later))
 
--- a name that is there passes, and so one is found
-found : (p : Name → Bool) (names : List Name) (x : Name) → is_among x names ≡ true → p x ≡ true → find p names ≡ None → ⊥
-found p [] x there passes none = both_ways false refl there
-found p (y ∷ ys) x there passes none = ⊎_elim
-    (λ on. let bad : Some y ≡ None = sym (ap (λ b. cond b (Some y) (find p ys)) on) ∙ none in cc)
-    (λ off. ⊎_elim
-    (λ here. both_ways (p y) off (ap p ((bytes_eq-Decides y x).0 here) ∙ passes))
-    (λ later. found p ys x later passes (sym (ap (λ b. cond b (Some y) (find p ys)) off) ∙ none))
-    (or_cases (bytes_eq y x) _ there))
+-- a name that passes is found where none before it passes
+find_at : (p : Name → Bool) (names : List Name) (i : ℕ) (x : Name) → i < length names → x ≡ get_or names i x → p x ≡ true → find p (take i names) ≡ None
+    → find p names ≡ Some x
+find_at p [] i x lt is on none = absurd (omega arith)
+find_at p (y ∷ ys) zero x lt is on none =
+    let e : x ≡ y = is in
+    ap (λ b. cond b (Some y) (find p ys)) (sym (ap p e) ∙ on) ∙ ap Some (sym e)
+find_at p (y ∷ ys) (suc i) x lt is on none = ⊎_elim
+    (λ there. let bad : Some y ≡ None = sym (ap (λ b. cond b (Some y) (find p (take i ys))) there) ∙ none in absurd cc)
+    (λ off.
+    ap (λ b. cond b (Some y) (find p ys)) off
+    ∙ find_at p ys i x (omega arith) is on (sym (ap (λ b. cond b (Some y) (find p (take i ys))) off) ∙ none))
     (cases_Bool (p y))
+
+-- a number that passes is found where no lesser one passes
+least : {X : Type 0} (p : ℕ → Bool) (n : ℕ) (xs : List X) (a : ℕ) → n ≤ a → a < n + length xs → p a ≡ true → ((b : ℕ) → b < a → p b ≡ false)
+    → find p (numbers_from n xs) ≡ Some a
+least p n [] a low high on off = absurd (omega arith)
+least p n (x ∷ xs) a low high on off = ⊎_elim
+    (λ e. ap (λ b. cond b (Some n) (find p (numbers_from (n + 1) xs))) (ap p e ∙ on) ∙ ap Some e)
+    (λ apart.
+    ap (λ b. cond b (Some n) (find p (numbers_from (n + 1) xs))) (off n (omega (arith, apart)))
+    ∙ least p (n + 1) xs a (omega (arith, apart)) (omega arith) on off)
+    (cases_eq n a)
 
 -- a test of a number is passed where the number is in the list
 numbered : {X : Type 0} (p : ℕ → Bool) (n : ℕ) (xs : List X) (a : ℕ) → n ≤ a → a < n + length xs → p a ≡ true → list_any p (numbers_from n xs) ≡ true
@@ -92,12 +111,12 @@ module _ (nb : List Cell) (defined : List (List Name)) (kept : AreDefs nb define
       filter_alike _ _ (λ a. ap (λ (ns : List Name). list_any (λ x. is_among x ns) (refs_of nb c)) (same_names a)) (numbers_from 0 defined)
       ∙ ap (filter _) (numbers_alike 0 defined nb kept.count)
 
-  pub are_parents : AreParents nb (map (λ (c : Cell). lists_with defined (refs c)) nb)
-  are_parents = record {
-    count = length-map nb (λ (c : Cell). lists_with defined (refs c));
+  pub are_parents : (referenced : List (List Name)) → AreRefs nb referenced → AreParents nb (map (lists_with defined) referenced)
+  are_parents referenced read = record {
+    count = length-map referenced (lists_with defined) ∙ read.count;
     each = λ c cells h.
-        let p = map_at (λ (d : Cell). lists_with defined (refs d)) nb c cells h in
-        sym p.2 ∙ ap (lists_with defined) (ap (names_at refs) (sym p.1)) ∙ same_parents c;
+        let p = map_at (lists_with defined) referenced c cells h in
+        sym p.2 ∙ ap (lists_with defined) (read.each c p.0 p.1) ∙ same_parents c;
   }
 
   -- a look-up of the definitions: no name is defined in two cells
@@ -116,20 +135,65 @@ module _ (nb : List Cell) (defined : List (List Name)) (kept : AreDefs nb define
           let below = ltb-true p.0 c parts.0 in
           omega arith
 
-  -- a name in two of the lists is defined in two cells
-  pub doubled : IsInTwo defined → NoneDoubled nb → ⊥
-  doubled two once =
-      let x = two.0 in
-      let a = two.1 in
-      let b = two.2 in
-      let in_a : is_among x (defs_of nb a) ≡ true = sym (ap (is_among x) (same_names a)) ∙ two.4 in
-      let in_b : is_among x (defs_of nb b) ≡ true = sym (ap (is_among x) (same_names b)) ∙ two.5 in
-      let low : a < length defined = within defined x a two.4 in
-      let before : defined_before nb b x ≡ true =
-      numbered (λ d. nat_lt d b && is_among x (defs_of nb d)) 0 nb a (omega arith) (omega (arith, low, kept.count)) (and_from _ _ (lt-ltb a b two.3) in_a) in
-      found (defined_before nb b) (defs_of nb b) x in_b before (once b)
+-- ---- a name that is defined again
 
-  pub same_cause : (e : GraphFault) → IsCauseIn e defined → IsCauseOf e nb
-  same_cause Doubly two = doubled two
-  same_cause Cycle bad = absurd bad
-  same_cause Memory u = u
+-- a look-up of the definitions of the first cells, and of the first names of the next
+module _ (nb : List Cell) (lists later : List (List Name)) (names : List Name) (kept : AreDefs nb (lists ++ names ∷ later))
+    (i : ℕ) (at : Name → Option ℕ) (f : FindsLists (lists ++ take i names ∷ []) at) where
+  of_earlier : (c : ℕ) → c < length lists → defs_of nb c ≡ names_in lists c
+  of_earlier c h = sym (same_names nb (lists ++ names ∷ later) kept c) ∙ in_earlier lists (names ∷ later) c h
+
+  of_next : defs_of nb (length lists) ≡ names
+  of_next = sym (same_names nb (lists ++ names ∷ later) kept (length lists)) ∙ in_next lists names later
+
+  seen_earlier : (y : Name) (c : ℕ) → c < length lists → is_among y (defs_of nb c) ≡ true → at y ≡ Some c
+  seen_earlier y c h there = f.finds y c (ap (is_among y) (in_earlier lists (take i names ∷ []) c h ∙ sym (of_earlier c h)) ∙ there)
+
+  seen_here : (y : Name) → is_among y (take i names) ≡ true → at y ≡ Some (length lists)
+  seen_here y there = f.finds y (length lists) (ap (is_among y) (in_next lists (take i names) []) ∙ there)
+
+  -- no earlier cell than the one that is found defines the name
+  not_before : (c : ℕ) → c ≤ length lists → (y : Name) → at y ≡ Some c → defined_before nb c y ≡ false
+  not_before c h y here = false_from_ne_true _ (λ before.
+      let p = some_passes (λ a. nat_lt a c && is_among y (defs_of nb a)) (all_cells nb) before in
+      let parts = and_parts (nat_lt p.0 c) (is_among y (defs_of nb p.0)) p.1 in
+      let below = ltb-true p.0 c parts.0 in
+      let same : Some p.0 ≡ Some c = sym (seen_earlier y p.0 (omega arith) parts.1) ∙ here in
+      let e : p.0 ≡ c = cc in
+      omega arith)
+
+  -- the next name is found in an earlier cell
+  module _ (x : Name) (a : ℕ) (here : at x ≡ Some a) (apart : a ≡ length lists → ⊥) (lt : i < length names) (is : x ≡ get_or names i x) where
+    low : a < length lists
+    low = omega (arith, apart, within (lists ++ take i names ∷ []) x a (f.stands x a here), length_push lists (take i names))
+
+    fits : a < length nb
+    fits = omega (arith, low, kept.count, length-append lists (names ∷ later))
+
+    defined_there : is_among x (defs_of nb a) ≡ true
+    defined_there = ap (is_among x) (of_earlier a low ∙ sym (in_earlier lists (take i names ∷ []) a low)) ∙ f.stands x a here
+
+    before_here : defined_before nb (length lists) x ≡ true
+    before_here =
+        numbered (λ d. nat_lt d (length lists) && is_among x (defs_of nb d)) 0 nb a (omega arith) (omega (arith, fits))
+        (and_from _ _ (lt-ltb a (length lists) low) defined_there)
+
+    pub doubled : IsDoubled nb x a (length lists)
+    doubled = record {
+      again = ap (find (defined_before nb (length lists))) of_next
+          ∙ find_at (defined_before nb (length lists)) names i x lt is before_here
+          (none_found (defined_before nb (length lists)) (take i names) (λ y there. not_before (length lists) (omega arith) y (seen_here y there)));
+      soonest = λ c below. none_found (defined_before nb c) (defs_of nb c) (λ y there. not_before c (omega arith) y (seen_earlier y c below there));
+      earliest = least (λ c. is_among x (defs_of nb c)) 0 nb a (omega arith) (omega (arith, fits)) defined_there
+          (λ b below. false_from_ne_true _ (λ there.
+          let same : Some b ≡ Some a = sym (seen_earlier x b (omega (arith, low)) there) ∙ here in
+          let e : b ≡ a = cc in
+          omega arith));
+    }
+
+-- ---- cells on cycles
+
+-- where the order is short, some cell lies on a cycle
+pub some_cyclic : (nb : List Cell) (cells : List ℕ) → AreCyclic nb cells → length (order nb) < length nb → 0 < length cells
+some_cyclic nb [] all short = absurd (short_is_cyclic nb short (λ c below lies. both_ways false refl (all.every c lies)))
+some_cyclic nb (c ∷ cs) all short = omega arith

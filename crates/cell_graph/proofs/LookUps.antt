@@ -1,30 +1,28 @@
 -- Look-ups that find the list in which a name stands.
-use Rattle.std.proofs.Common.{◌≡◌, ℕ, zero, suc, ◌<◌, ◌≤◌, Bool, true, false, cond, ◌||◌, ◌==◌, ◌⊎◌, inl, inr, ⊎_elim, List, [], ◌∷◌, ◌++◌, length, get_or, take, Option, Some, None, refl, sym, ap, ◌∙◌, arith}
+use Rattle.std.proofs.Common.{◌≡◌, ℕ, zero, suc, ◌<◌, ◌≤◌, Bool, true, false, cond, ◌||◌, ◌==◌, ◌⊎◌, inl, inr, ⊎_elim, List, [], ◌∷◌, ◌++◌, length, Option, Some, None, refl, sym, ap, ◌∙◌, arith}
 use Rattle.std.specs.BTreeSet.{insert_key}
 use Rattle.std.specs.Ordering.{nat_cmp}
 use Rattle.std.specs.List.{list_any}
 use Rattle.std.specs.Str.{bytes_eq}
 use Rattle.std.proofs.lemmas.Bool.{both_ways, cases_Bool, cases_lt, cases_order, eq-eqb, ne_eqb, or_cases, or_left, or_right, false_from_ne_true}
-use Rattle.std.proofs.lemmas.List.Folds.{list_any-append, list_any_at}
+use Rattle.std.proofs.lemmas.List.Folds.{list_any-append}
 use Rattle.std.proofs.lemmas.Slice.Eq.{bytes_eq-Decides}
 use Rattle.py_tree.specs.Names.{Name, is_among}
 use Rattle.notebook_meaning.specs.Graph.{numbers_from}
-use Rattle.cell_graph.specs.Definers.{names_in, FindsLists, IsInTwo, IsCauseIn, lists_with}
-use Rattle.cell_graph.specs.declared.fault.GraphFault.{GraphFault}
-use Rattle.cell_graph.specs.declared.fault.GraphFault.TheVariants.{Doubly, Cycle, Memory}
+use Rattle.cell_graph.specs.Definers.{names_in, FindsLists, lists_with}
 use Rattle.cell_graph.proofs.Names.{filter_alike}
 use Rattle.cell_graph.proofs.Numbers.{inserted}
 
--- ---- one list more
+-- ---- lists more
 
-in_earlier : (lists : List (List Name)) (last : List Name) (a : ℕ) → a < length lists → names_in (lists ++ last ∷ []) a ≡ names_in lists a
-in_earlier [] last a h = absurd (omega arith)
-in_earlier (l ∷ ls) last zero h = refl
-in_earlier (l ∷ ls) last (suc a) h = in_earlier ls last a (omega arith)
+pub in_earlier : (lists rest : List (List Name)) (a : ℕ) → a < length lists → names_in (lists ++ rest) a ≡ names_in lists a
+in_earlier [] rest a h = absurd (omega arith)
+in_earlier (l ∷ ls) rest zero h = refl
+in_earlier (l ∷ ls) rest (suc a) h = in_earlier ls rest a (omega arith)
 
-in_last : (lists : List (List Name)) (last : List Name) → names_in (lists ++ last ∷ []) (length lists) ≡ last
-in_last [] last = refl
-in_last (l ∷ ls) last = in_last ls last
+pub in_next : (lists : List (List Name)) (next : List Name) (rest : List (List Name)) → names_in (lists ++ next ∷ rest) (length lists) ≡ next
+in_next [] next rest = refl
+in_next (l ∷ ls) next rest = in_next ls next rest
 
 in_none : (lists : List (List Name)) (last : List Name) (a : ℕ) → length lists < a → names_in (lists ++ last ∷ []) a ≡ []
 in_none [] last zero h = absurd (omega arith)
@@ -79,10 +77,10 @@ module _ (lists : List (List Name)) (names : List Name) (x : Name) (at : Name �
   still : (q : Name) (a : ℕ) → is_among q (names_in old a) ≡ true → is_among q (names_in new a) ≡ true
   still q a h = ⊎_elim
       (λ here.
-      let before : is_among q names ≡ true = sym (ap (is_among q) (ap (names_in old) here ∙ in_last lists names)) ∙ h in
-      ap (is_among q) (ap (names_in new) here ∙ in_last lists (names ++ x ∷ [])) ∙ among_last x q names ∙ or_left _ _ before)
+      let before : is_among q names ≡ true = sym (ap (is_among q) (ap (names_in old) here ∙ in_next lists names [])) ∙ h in
+      ap (is_among q) (ap (names_in new) here ∙ in_next lists (names ++ x ∷ []) []) ∙ among_last x q names ∙ or_left _ _ before)
       (λ apart. ⊎_elim
-      (λ below. ap (is_among q) (in_earlier lists (names ++ x ∷ []) a below ∙ sym (in_earlier lists names a below)) ∙ h)
+      (λ below. ap (is_among q) (in_earlier lists ((names ++ x ∷ []) ∷ []) a below ∙ sym (in_earlier lists (names ∷ []) a below)) ∙ h)
       (λ above. absurd (both_ways false refl (sym (ap (is_among q) (in_none lists names a above)) ∙ h)))
       apart)
       (cases_order a (length lists))
@@ -92,13 +90,13 @@ module _ (lists : List (List Name)) (names : List Name) (x : Name) (at : Name �
   was q a h = ⊎_elim
       (λ here.
       let among : (is_among q names || (bytes_eq x q || false)) ≡ true =
-      sym (among_last x q names) ∙ sym (ap (is_among q) (ap (names_in new) here ∙ in_last lists (names ++ x ∷ []))) ∙ h in
+      sym (among_last x q names) ∙ sym (ap (is_among q) (ap (names_in new) here ∙ in_next lists (names ++ x ∷ []) [])) ∙ h in
       ⊎_elim
-      (λ before. inl (ap (is_among q) (ap (names_in old) here ∙ in_last lists names) ∙ before))
+      (λ before. inl (ap (is_among q) (ap (names_in old) here ∙ in_next lists names []) ∙ before))
       (λ now. ⊎_elim (λ e. inr (e, here)) (λ off. absurd (both_ways false refl off)) (or_cases (bytes_eq x q) false now))
       (or_cases (is_among q names) _ among))
       (λ apart. ⊎_elim
-      (λ below. inl (ap (is_among q) (in_earlier lists names a below ∙ sym (in_earlier lists (names ++ x ∷ []) a below)) ∙ h))
+      (λ below. inl (ap (is_among q) (in_earlier lists (names ∷ []) a below ∙ sym (in_earlier lists ((names ++ x ∷ []) ∷ []) a below)) ∙ h))
       (λ above. absurd (both_ways false refl (sym (ap (is_among q) (in_none lists (names ++ x ∷ []) a above)) ∙ h)))
       apart)
       (cases_order a (length lists))
@@ -115,7 +113,7 @@ module _ (lists : List (List Name)) (names : List Name) (x : Name) (at : Name �
       by : (b : Bool) (q : Name) → bytes_eq x q ≡ b → (a : ℕ) → cond b (Some (length lists)) (at q) ≡ Some a → is_among q (names_in new a) ≡ true
       by true q e a h =
           let here : a ≡ length lists = cc in
-          ap (is_among q) (ap (names_in new) here ∙ in_last lists (names ++ x ∷ [])) ∙ among_last x q names ∙ or_right _ _ (or_left _ _ e)
+          ap (is_among q) (ap (names_in new) here ∙ in_next lists (names ++ x ∷ []) []) ∙ among_last x q names ∙ or_right _ _ (or_left _ _ e)
       by false q e a h = still q a (f.stands q a h)
 
       kept : (q : Name) (a : ℕ) → at q ≡ Some a → at_new q ≡ Some a
@@ -132,33 +130,6 @@ finds_alike lists at same h f = record {
   stands = λ x a e. f.stands x a (sym (h x) ∙ e);
   finds = λ x a e. h x ∙ f.finds x a e;
 }
-
--- a name of the last list that an earlier one has too
-pub in_two : (lists : List (List Name)) (names : List Name) (i : ℕ) (x : Name) (at : Name → Option ℕ) (a : ℕ) → FindsLists (lists ++ take i names ∷ []) at
-    → at x ≡ Some a → (a ≡ length lists → ⊥) → i < length names → x ≡ get_or names i x → IsInTwo (lists ++ names ∷ [])
-in_two lists names i x at a f here apart lt is = ⊎_elim
-    (λ e. absurd (apart e))
-    (λ other. ⊎_elim
-    (λ below.
-    let there : is_among x (names_in lists a) ≡ true = sym (ap (is_among x) (in_earlier lists (take i names) a below)) ∙ f.stands x a here in
-    let in_names : is_among x names ≡ true = list_any_at (λ o. bytes_eq o x) names i x lt (sym (ap (λ o. bytes_eq o x) is) ∙ is_itself x) in
-    (x, a, length lists, below, ap (is_among x) (in_earlier lists names a below) ∙ there, ap (is_among x) (in_last lists names) ∙ in_names))
-    (λ above. absurd (both_ways false refl (sym (ap (is_among x) (in_none lists (take i names) a above)) ∙ f.stands x a here)))
-    other)
-    (cases_order a (length lists))
-
-in_first : (lists : List (List Name)) (n : ℕ) (x : Name) (a : ℕ) → is_among x (names_in (take n lists) a) ≡ true → is_among x (names_in lists a) ≡ true
-in_first [] zero x a h = h
-in_first [] (suc n) x a h = h
-in_first (l ∷ ls) zero x a h = absurd (both_ways false refl h)
-in_first (l ∷ ls) (suc n) x zero h = h
-in_first (l ∷ ls) (suc n) x (suc a) h = in_first ls n x a h
-
--- what is wrong with the first lists is wrong with all
-pub cause_of_first : (e : GraphFault) (lists : List (List Name)) (n : ℕ) → IsCauseIn e (take n lists) → IsCauseIn e lists
-cause_of_first Doubly lists n two = (two.0, two.1, two.2, two.3, in_first lists n two.0 two.1 two.4, in_first lists n two.0 two.2 two.5)
-cause_of_first Cycle lists n bad = bad
-cause_of_first Memory lists n u = u
 
 -- ---- the lists in which one of several names stands
 

@@ -1,37 +1,24 @@
 -- Which of several lists of names a name stands in.
-use Rattle.std.specs.Prelude.{◌≡◌, ℕ, ◌<◌, IsTrue, List, [], filter, Option, Some, unwrap_or, slice_get}
+use Rattle.std.specs.Prelude.{◌≡◌, ℕ, IsTrue, List, [], filter, Option, Some, unwrap_or, slice_get}
 use Rattle.std.specs.Borrow.{Bor}
-use Rattle.std.specs.HashMap.{HashMap, get_by}
 use Rattle.std.specs.List.{list_any}
 use Rattle.std.specs.Str.{bytes_eq}
+use Rattle.indexmap.specs.IndexMap.{IndexMap, get_by}
 use Rattle.py_tree.specs.Names.{Name, is_among}
 use Rattle.notebook_meaning.specs.Graph.{numbers_from}
-use Rattle.cell_graph.specs.declared.fault.GraphFault.{GraphFault}
-use Rattle.cell_graph.specs.declared.fault.GraphFault.TheVariants.{Doubly, Cycle, Memory}
 
 -- the list with this number, and no names past the last one
 abbrev pub names_in : List (List Name) → ℕ → List Name
 names_in lists a = unwrap_or (slice_get lists a) []
 
 -- what the table has at a name
-abbrev pub list_at : {S : Type 0} → HashMap (Bor Name) ℕ S → Name → Option ℕ
+abbrev pub list_at : {S : Type 0} → IndexMap (Bor Name) ℕ S → Name → Option ℕ
 list_at table x = get_by (λ (k : Bor Name). bytes_eq x k.now) table
 
 -- a look-up finds, at each name, the number of the one list that has it
 pub record FindsLists (lists : List (List Name)) (found : Name → Option ℕ) : Type 0 where
   pub stands : (x : Name) (a : ℕ) → found x ≡ Some a → IsTrue (is_among x (names_in lists a))
   pub finds : (x : Name) (a : ℕ) → IsTrue (is_among x (names_in lists a)) → found x ≡ Some a
-
--- a name stands in two of the lists
-abbrev pub IsInTwo : List (List Name) → Type 0
-IsInTwo lists =
-    (x : Name) × (a : ℕ) × (b : ℕ) × (a < b) × IsTrue (is_among x (names_in lists a)) × IsTrue (is_among x (names_in lists b))
-
--- Why there is no such look-up. Want of memory has no cause here.
-abbrev pub IsCauseIn : GraphFault → List (List Name) → Type 0
-IsCauseIn Doubly lists = IsInTwo lists
-IsCauseIn Cycle lists = ⊥
-IsCauseIn Memory lists = Unit {0}
 
 -- the numbers of the lists in which one of these names stands, ascending
 abbrev pub lists_with : List (List Name) → List Name → List ℕ

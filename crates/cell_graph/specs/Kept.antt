@@ -1,12 +1,20 @@
 -- What the code keeps of a notebook's cells.
 use Rattle.std.specs.Prelude.{◌≡◌, ℕ, List, length, slice_get, Some}
+use Rattle.py_tree.specs.Names.{Name}
 use Rattle.py_tree.specs.Trees.{Cell}
 use Rattle.notebook_meaning.specs.Graph as graph
 
--- the names that each cell defines
-pub record AreDefs (nb : List Cell) (kept : List (List (List ℕ))) : Type 0 where
+-- the names that each cell has by f
+pub record AreNames (f : List Cell → ℕ → List Name) (nb : List Cell) (kept : List (List Name)) : Type 0 where
   pub count : length kept ≡ length nb
-  pub each : (c : ℕ) (names : List (List ℕ)) → slice_get kept c ≡ Some names → names ≡ graph.defs_of nb c
+  pub each : (c : ℕ) (names : List Name) → slice_get kept c ≡ Some names → names ≡ f nb c
+
+-- those that each cell defines, and those that it references
+abbrev pub AreDefs : List Cell → List (List Name) → Type 0
+AreDefs = AreNames graph.defs_of
+
+abbrev pub AreRefs : List Cell → List (List Name) → Type 0
+AreRefs = AreNames graph.refs_of
 
 -- the parents of each cell, in file order
 pub record AreParents (nb : List Cell) (kept : List (List ℕ)) : Type 0 where

@@ -1,17 +1,15 @@
 // The parents of cells.
-ghost use Rattle.std.specs.Prelude.{◌≡◌, ◌^◌, ◌<◌, List, IfOk, IfErr, length, map};
+ghost use Rattle.std.specs.Prelude.{◌≡◌, ◌^◌, ◌<◌, List, IfOk, IfErr, length};
 ghost use Rattle.py_tree.specs.Names.{Name};
-ghost use Rattle.py_tree.specs.View.{view_cells};
+ghost use Rattle.py_tree.specs.Trees.{Cell};
 ghost use Rattle.cell_graph.specs.Definers.{list_at, lists_with, FindsLists};
-ghost use Rattle.cell_graph.specs.Kept.{AreDefs, AreParents};
+ghost use Rattle.cell_graph.specs.Kept.{AreDefs, AreRefs, AreParents};
 ghost use Rattle.cell_graph.specs.Refused.{IsCauseOf};
 ghost use Rattle.notebook_meaning.specs.Graph.{NoneDoubled};
 
 use crate::cell_list::CellList;
-use crate::cell_names::refs;
 use crate::definers::{Definers, definers};
 use crate::fault::GraphFault;
-use py_tree::CellCode;
 use py_value::{Lines, Memory, Text};
 use std::alloc::Global;
 use std::collections::BTreeSet;
@@ -19,19 +17,17 @@ use std::collections::BTreeSet;
 // The parents of each cell, where no name is defined in two cells.
 pub(crate) fn all_parents(
     alloc: Global,
-    cells: &[CellCode],
     defined: &[Lines],
+    referenced: &[Lines],
 ) -> Result<Vec<CellList>, GraphFault>
-    requires few { length cells.now < 2 ^ 32 }
-    requires defs { AreDefs (view_cells cells.now) defined.now }
-    ensures parents { IfOk result (λ above. AreParents (view_cells cells.now) above.items) }
-    ensures once { IfOk result (λ above. NoneDoubled (view_cells cells.now)) }
-    ensures refused { IfErr result (λ e. IsCauseOf e (view_cells cells.now)) }
+    requires { length defined.now < 2 ^ 32 }
+    ensures parents { IfOk result (λ above. (nb : List Cell) → AreDefs nb defined.now → AreRefs nb referenced.now → AreParents nb above.items) }
+    ensures once { IfOk result (λ above. (nb : List Cell) → AreDefs nb defined.now → NoneDoubled nb) }
+    ensures refused { IfErr result (λ e. (nb : List Cell) → AreDefs nb defined.now → IsCauseOf e nb) }
 {
     let table = definers(alloc, defined)?;
     let mut above = Vec::new(alloc);
-    for cell in cells {
-        let names = refs(alloc, cell)?;
+    for names in referenced {
         above.push(parents_of(alloc, &table, names.items())?)?;
     }
     Ok(above)
@@ -54,6 +50,10 @@ fn parents_of(alloc: Global, table: &Definers, names: &[Text]) -> Result<CellLis
 fn list_of(alloc: Global, cells: &BTreeSet<u32>) -> Result<CellList, Memory>
     ensures { IfOk result (λ list. list ≡ cells.now.keys) }
 {
-    let list: Vec<u32> = cells.iter().copied().collect(alloc)?;
+    // `collect` would ask for more room than is needed, and go on where that is refused.
+    let mut list = Vec::new(alloc);
+    for cell in cells {
+        list.push(*cell)?;
+    }
     Ok(CellList::of(list))
 }

@@ -1,12 +1,13 @@
 // The check of cells.
 ghost use Rattle.std.specs.Prelude.{◌≡◌, ◌^◌, ◌<◌, IfOk, IfErr, length};
-ghost use Rattle.cell_graph.specs.Kept.{AreDefs};
+ghost use Rattle.cell_graph.specs.Kept.{AreDefs, AreRefs};
 ghost use Rattle.cell_graph.specs.Refused.{IsCauseOf};
 ghost use Rattle.notebook_meaning.specs.Graph.{NoneDoubled, NoneCyclic};
 ghost use Rattle.py_tree.specs.View.{view_cells};
 
 use crate::ancestry::all_parents;
-use crate::cell_names::defs;
+use crate::cell_names::{defs, refs};
+use crate::cycles::cyclic_cells;
 use crate::fault::GraphFault;
 use crate::graph::Notebook;
 use crate::order::order_of;
@@ -15,7 +16,7 @@ use py_value::{Lines, Memory};
 use std::alloc::Global;
 
 /// The notebook of these cells. It is refused where a name is defined in two cells, else where a cell lies on a cycle, and
-/// where memory is wanting.
+/// where memory is wanting. The fault says which name and which cells.
 pub fn notebook(alloc: Global, cells: Vec<CellCode>) -> Result<Notebook, GraphFault>
     requires { length cells.items < 2 ^ 32 }
     ensures same { IfOk result (λ nb. nb ≡ cells.items) }
@@ -24,14 +25,18 @@ pub fn notebook(alloc: Global, cells: Vec<CellCode>) -> Result<Notebook, GraphFa
     ensures refused { IfErr result (λ e. IsCauseOf e (view_cells cells.items)) }
 {
     let defined = all_defs(alloc, cells.as_slice())?;
-    let above = all_parents(alloc, cells.as_slice(), defined.as_slice())?;
+    let referenced = all_refs(alloc, cells.as_slice())?;
+    let above = all_parents(alloc, defined.as_slice(), referenced.as_slice())?;
     let ordered = order_of(alloc, above.as_slice())?;
     if ordered.len() < cells.len() {
-        return Err(GraphFault::Cycle);
+        return Err(GraphFault::Cycle {
+            cells: cyclic_cells(alloc, above.as_slice())?,
+        });
     }
     Ok(Notebook {
         cells,
         defined,
+        referenced,
         above,
         ordered,
     })
@@ -46,4 +51,15 @@ fn all_defs(alloc: Global, cells: &[CellCode]) -> Result<Vec<Lines>, Memory>
         defined.push(defs(alloc, cell)?)?;
     }
     Ok(defined)
+}
+
+// The names that each cell references.
+fn all_refs(alloc: Global, cells: &[CellCode]) -> Result<Vec<Lines>, Memory>
+    ensures { IfOk result (λ referenced. AreRefs (view_cells cells.now) referenced.items) }
+{
+    let mut referenced = Vec::new(alloc);
+    for cell in cells {
+        referenced.push(refs(alloc, cell)?)?;
+    }
+    Ok(referenced)
 }

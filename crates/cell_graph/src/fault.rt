@@ -1,16 +1,18 @@
-// The two ways in which cells are no notebook.
+// Why some cells are no notebook.
 ghost use Rattle.std.specs.Prelude.{◌≡◌};
 
-use py_value::Memory;
+use crate::cell_list::CellList;
+use py_value::{Memory, Text};
 use std::alloc::AllocFailed;
 
 /// Why cells are no notebook.
-#[derive(Clone, Copy, Debug, PartialEq, Eq)]
+#[derive(Debug, Drop)]
 pub enum GraphFault {
-    /// A name is defined in two cells.
-    Doubly,
-    /// No name is defined in two cells, and some cell lies on a cycle.
-    Cycle,
+    /// A name is defined again: `second` is the earliest cell that defines a name of a cell before it, `name` is the first of its
+    /// names that is so, and `first` is where that is defined first.
+    Doubly { name: Text, first: u32, second: u32 },
+    /// No name is defined in two cells, and these are all cells that lie on a cycle, in file order.
+    Cycle { cells: CellList },
     /// Memory was wanting.
     Memory,
 }

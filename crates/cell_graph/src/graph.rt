@@ -1,5 +1,5 @@
 // Notebooks with their graph.
-ghost use Rattle.std.specs.Prelude.{◌≡◌, ◌<◌, length};
+ghost use Rattle.std.specs.Prelude.{◌≡◌, ℕ, ◌<◌, IsTrue, length};
 ghost use Rattle.notebook_meaning.specs.Graph as graph;
 ghost use Rattle.py_tree.specs.View.{view_cells};
 
@@ -14,6 +14,7 @@ use std::marker::Model;
 pub struct Notebook {
     pub(crate) cells: Vec<CellCode>,
     pub(crate) defined: Vec<Lines>,
+    pub(crate) referenced: Vec<Lines>,
     pub(crate) above: Vec<CellList>,
     pub(crate) ordered: Vec<u32>,
 }
@@ -24,7 +25,7 @@ impl Model for Notebook {
     ghost use Rattle.py_tree.specs.contracts.tree.Block as block;
     ghost use Rattle.py_tree.specs.declared.tree.CellCode.{CellCode};
     ghost use Rattle.py_tree.specs.View.{view_cells};
-    ghost use Rattle.cell_graph.specs.Kept.{AreDefs, AreParents};
+    ghost use Rattle.cell_graph.specs.Kept.{AreDefs, AreRefs, AreParents};
     ghost use Rattle.notebook_meaning.specs.Graph as graph;
 
     ghost Value = { List CellCode };
@@ -34,6 +35,7 @@ impl Model for Notebook {
     ghost view = { λ nb. nb.cells.items };
 
     ghost invariant = { λ nb. (length nb.cells.items < 2 ^ 32) × AreDefs (view_cells nb.cells.items) nb.defined.items
+        × AreRefs (view_cells nb.cells.items) nb.referenced.items
         × AreParents (view_cells nb.cells.items) nb.above.items × (nb.ordered.items ≡ graph.order (view_cells nb.cells.items))
         × graph.NoneDoubled (view_cells nb.cells.items) × graph.NoneCyclic (view_cells nb.cells.items) };
 }
@@ -56,6 +58,14 @@ impl Notebook {
         &self.defined[cell as usize]
     }
 
+    /// The names that a cell references.
+    pub fn refs_of(&self, cell: u32) -> &Lines
+        requires { cell < length self.now }
+        ensures { result.now ≡ graph.refs_of (view_cells self.now) cell }
+    {
+        &self.referenced[cell as usize]
+    }
+
     /// The cells that define a name that the cell references, in file order.
     pub fn parents(&self, cell: u32) -> &[u32]
         requires { cell < length self.now }
@@ -64,10 +74,11 @@ impl Notebook {
         self.above[cell as usize].items()
     }
 
-    /// The order in which the cells run: at each place stands the first cell in file order, not yet listed, all of whose parents
-    /// are listed.
+    /// The order in which the cells run, in which every cell stands: the next cell is always the earliest in the file that isn't
+    /// listed yet while its parents are.
     pub fn order(&self) -> &[u32]
-        ensures { result.now ≡ graph.order (view_cells self.now) }
+        ensures order { result.now ≡ graph.order (view_cells self.now) }
+        ensures every { (c : ℕ) → c < length self.now → IsTrue (graph.is_in c result.now) }
     {
         self.ordered.as_slice()
     }

@@ -1,4 +1,5 @@
-//! The graph of a notebook's cells: the names that they define and reference, their parents and their order.
+//! The graph of a notebook's cells: the names that they define and reference, their parents and their order; names that are defined
+//! again, and cells on cycles.
 #![tactic(auto)]
 
 mod ancestry;
@@ -6,6 +7,7 @@ mod cell_list;
 mod cell_names;
 mod check;
 mod children;
+mod cycles;
 mod definers;
 mod fault;
 mod free;

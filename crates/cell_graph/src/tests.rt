@@ -60,6 +60,15 @@ fn cells(alloc: Global, rows: &[Row]) -> Result<Vec<CellCode>, Memory> {
     Ok(all)
 }
 
+// a cell for each list of rows
+fn cells_of_lines(alloc: Global, cells: &[&[Row]]) -> Result<Vec<CellCode>, Memory> {
+    let mut all = Vec::new(alloc);
+    for rows in cells {
+        all.push(cell(alloc, *rows)?)?;
+    }
+    Ok(all)
+}
+
 fn are(names: &Lines, wanted: &[&str]) -> bool {
     let given = names.items();
     if given.len() != wanted.len() {
@@ -105,6 +114,7 @@ fn orders_cells(rt: HostRuntime) -> Result<(), Fail> {
                 assert_eq!(rt; nb.order(), order);
                 assert_eq!(rt; nb.parents(0), parents);
                 assert!(rt; are(nb.defs_of(0), &[rows[0].0]));
+                assert!(rt; are(nb.refs_of(0), rows[0].1));
             }
             Err(_) => panic!(rt; "refused"),
         }
@@ -112,22 +122,90 @@ fn orders_cells(rt: HostRuntime) -> Result<(), Fail> {
     Ok(())
 }
 
+// whether the fault names this name and these two cells
+fn is_doubly(fault: &GraphFault, wanted: &str, earliest: u32, again: u32) -> bool {
+    match fault {
+        GraphFault::Doubly {
+            name,
+            first,
+            second,
+        } => name.items() == wanted && *first == earliest && *second == again,
+        _ => false,
+    }
+}
+
+// whether the fault lists these cells
+fn is_cycle(fault: &GraphFault, wanted: &[u32]) -> bool {
+    match fault {
+        GraphFault::Cycle { cells } => cells.items() == wanted,
+        _ => false,
+    }
+}
+
 #[test]
-fn refuses_cells(rt: HostRuntime) -> Result<(), Fail> {
-    let doubled: &[Row] = &[("a", &[]), ("b", &["a"]), ("a", &["b"])];
-    let cycle: &[Row] = &[("a", &["b"]), ("b", &["a"])];
-    let leads_to_cycle: &[Row] = &[("x", &[]), ("a", &["b", "x"]), ("b", &["a"])];
-    for (rows, fault) in [
-        (doubled, GraphFault::Doubly),
-        (cycle, GraphFault::Cycle),
-        (leads_to_cycle, GraphFault::Cycle),
+fn refuses_names_again(rt: HostRuntime) -> Result<(), Fail> {
+    let twice: &[&[Row]] = &[&[("a", &[])], &[("b", &[])], &[("c", &[])], &[("b", &[])]];
+    let thrice: &[&[Row]] = &[
+        &[("a", &[])],
+        &[("x", &["a"])],
+        &[("a", &[])],
+        &[("a", &[])],
+    ];
+    let two_names: &[&[Row]] = &[&[("q", &[])], &[("p", &[])], &[("p", &[]), ("q", &[])]];
+    let two_cells: &[&[Row]] = &[&[("a", &[])], &[("b", &[])], &[("b", &[])], &[("a", &[])]];
+    let with_cycle: &[&[Row]] = &[&[("a", &["b"])], &[("b", &["a"])], &[("a", &[])]];
+    for (rows, name, first, second) in [
+        (twice, "b", 1, 3),
+        (thrice, "a", 0, 2),
+        (two_names, "p", 1, 2),
+        (two_cells, "b", 1, 2),
+        (with_cycle, "a", 0, 2),
+    ] {
+        let cells = cells_of_lines(rt.alloc(), rows)?;
+        assert!(rt; cells.len() < 10);
+        match notebook(rt.alloc(), cells) {
+            Ok(_) => panic!(rt; "accepted"),
+            Err(fault) => assert!(rt; is_doubly(&fault, name, first, second), "{name}"),
+        }
+    }
+    Ok(())
+}
+
+#[test]
+fn refuses_cycles(rt: HostRuntime) -> Result<(), Fail> {
+    let one: &[Row] = &[("a", &["b"]), ("b", &["a"])];
+    let two: &[Row] = &[
+        ("a", &["b"]),
+        ("b", &["a"]),
+        ("c", &["a"]),
+        ("d", &["e"]),
+        ("e", &["d"]),
+    ];
+    let before_and_after: &[Row] = &[("x", &[]), ("a", &["b", "x"]), ("b", &["a"]), ("y", &["b"])];
+    for (rows, wanted) in [
+        (one, [0, 1].as_slice()),
+        (two, &[0, 1, 3, 4]),
+        (before_and_after, &[1, 2]),
     ] {
         let cells = cells(rt.alloc(), rows)?;
         assert!(rt; cells.len() < 10);
         match notebook(rt.alloc(), cells) {
             Ok(_) => panic!(rt; "accepted"),
-            Err(found) => assert_eq!(rt; found, fault),
+            Err(fault) => assert!(rt; is_cycle(&fault, wanted)),
         }
+    }
+    Ok(())
+}
+
+// a cell that reads the name that it binds itself, and binds it twice
+#[test]
+fn accepts_own_name(rt: HostRuntime) -> Result<(), Fail> {
+    let own: &[&[Row]] = &[&[("a", &["a"]), ("a", &["a"])], &[("b", &["a"])]];
+    let cells = cells_of_lines(rt.alloc(), own)?;
+    assert!(rt; cells.len() < 10);
+    match notebook(rt.alloc(), cells) {
+        Ok(nb) => assert_eq!(rt; nb.order(), [0, 1].as_slice()),
+        Err(_) => panic!(rt; "refused"),
     }
     Ok(())
 }

@@ -4,7 +4,7 @@ use Rattle.std.specs.Prelude.{Option, Some, None, IfSome}
 use Rattle.link_io.specs.Outside.{Took}
 use Rattle.link_io.proofs.Taken.{took_none}
 use Rattle.notebook_meaning.specs.Once as once
-use Rattle.notebook_meaning.specs.Once.{Comes, Begins, Once, command_of, AreRead, IsAccepted, IsRefused, IsFormless, read_of, once_text, refusal_text}
+use Rattle.notebook_meaning.specs.Once.{Comes, Begins, Once, command_of, AreRead, IsAccepted, IsRefused, Refusal, FailsFirst, read_of, once_text, refusal_text}
 use Rattle.py_tree.specs.Trees.{Cell}
 use Rattle.nbserve.specs.Unopened.{IsOpening}
 use Rattle.nbserve.specs.Wrote as wrote
@@ -22,21 +22,21 @@ pub nothing_wrote : (holds : List ℕ → Option (Option (List ℕ))) (unread un
 nothing_wrote holds unread unwritten words result before now e same =
     wrote.unfinished [] e (once.nothing refl) (subst (λ o. Took before o []) (sym same) (took_none before))
 
-pub refused_wrote : (holds : List ℕ → Option (Option (List ℕ))) (unread unwritten : Type 0) (words : List (List ℕ)) (line result : ℕ) (before now : Option (List ℕ)) → Comes holds unread words 1 (refusal_text line) → Refuses line result before now unwritten → Wrote holds unread unwritten words result before now
-refused_wrote holds unread unwritten words line result before now comes (wrote.written ended) = ended_wrote holds unread unwritten words 1 (refusal_text line) result before now comes ended
-refused_wrote holds unread unwritten words line result before now comes (wrote.nothing e same) = nothing_wrote holds unread unwritten words result before now e same
+pub refused_wrote : (holds : List ℕ → Option (Option (List ℕ))) (unread unwritten : Type 0) (words : List (List ℕ)) (why : Refusal) (result : ℕ) (before now : Option (List ℕ)) → Comes holds unread words 1 (refusal_text why) → Refuses why result before now unwritten → Wrote holds unread unwritten words result before now
+refused_wrote holds unread unwritten words why result before now comes (wrote.written ended) = ended_wrote holds unread unwritten words 1 (refusal_text why) result before now comes ended
+refused_wrote holds unread unwritten words why result before now comes (wrote.nothing e same) = nothing_wrote holds unread unwritten words result before now e same
 
 -- the opening's text is what the run comes to
 pub comes_opened : (holds : List ℕ → Option (Option (List ℕ))) (unread : Type 0) (words : List (List ℕ)) (file bytes text : List ℕ) → command_of words ≡ Some (Once file) → AreRead holds file bytes → IsOpening bytes text → Comes holds unread words 0 text
 comes_opened holds unread words file bytes text asked read opening = once.opened file bytes opening.0 asked read opening.1 refl opening.2
 
-pub comes_refused : (holds : List ℕ → Option (Option (List ℕ))) (unread : Type 0) (words : List (List ℕ)) (file bytes : List ℕ) (line : ℕ) → command_of words ≡ Some (Once file) → AreRead holds file bytes → IsRefused bytes × (IsFormless bytes ⊎ (line ≡ 0)) → Comes holds unread words 1 (refusal_text line)
-comes_refused holds unread words file bytes line asked read why = once.refused file bytes line asked read why.0 why.1 refl refl
+pub comes_refused : (holds : List ℕ → Option (Option (List ℕ))) (unread : Type 0) (words : List (List ℕ)) (file bytes : List ℕ) (why : Refusal) → command_of words ≡ Some (Once file) → AreRead holds file bytes → IsRefused bytes × FailsFirst bytes why → Comes holds unread words 1 (refusal_text why)
+comes_refused holds unread words file bytes why asked read cause = once.refused file bytes why asked read cause.0 cause.1 refl refl
 
 -- the statuses
 comes_range : (holds : List ℕ → Option (Option (List ℕ))) (unread : Type 0) (words : List (List ℕ)) (status : ℕ) (text : List ℕ) → Comes holds unread words status text → status ≤ 3
 comes_range holds unread words status text (once.opened file bytes nb a r acc e t) = subst (λ n. n ≤ 3) (sym e) (lit≤ tt)
-comes_range holds unread words status text (once.refused file bytes line a r none f e t) = subst (λ n. n ≤ 3) (sym e) (lit≤ tt)
+comes_range holds unread words status text (once.refused file bytes why a r none f e t) = subst (λ n. n ≤ 3) (sym e) (lit≤ tt)
 comes_range holds unread words status text (once.usage a e t) = subst (λ n. n ≤ 3) (sym e) (lit≤ tt)
 comes_range holds unread words status text (once.unread file a f e t) = subst (λ n. n ≤ 3) (sym e) (lit≤ tt)
 
@@ -65,7 +65,7 @@ module _ (holds : List ℕ → Option (Option (List ℕ))) (unread unwritten : T
   -- a read fault has its cause
   pub wrote_read : Wrote holds unread unwritten words status before now → status ≡ 3 → unread
   wrote_read (wrote.whole text (once.opened file bytes nb a r acc e t) took) h = absurd (omega (arith, e, h))
-  wrote_read (wrote.whole text (once.refused file bytes line a r none f e t) took) h = absurd (omega (arith, e, h))
+  wrote_read (wrote.whole text (once.refused file bytes why a r none f e t) took) h = absurd (omega (arith, e, h))
   wrote_read (wrote.whole text (once.usage a e t) took) h = absurd (omega (arith, e, h))
   wrote_read (wrote.whole text (once.unread file a f e t) took) h = f
   wrote_read (wrote.cut text e why begins took) h = absurd (omega (arith, e, h))
@@ -80,7 +80,7 @@ module _ (holds : List ℕ → Option (Option (List ℕ))) (unread unwritten : T
   -- words that are no form
   pub wrote_usage : Wrote holds unread unwritten words status before now → command_of words ≡ None → (status ≡ 2) ⊎ (status ≡ 4) ⊎ (status ≡ 5)
   wrote_usage (wrote.whole text (once.opened file bytes nb a r acc e t) took) h = let no : None ≡ Some (Once file) = sym h ∙ a in absurd cc
-  wrote_usage (wrote.whole text (once.refused file bytes line a r none f e t) took) h = let none : None ≡ Some (Once file) = sym h ∙ a in absurd cc
+  wrote_usage (wrote.whole text (once.refused file bytes why a r none f e t) took) h = let none : None ≡ Some (Once file) = sym h ∙ a in absurd cc
   wrote_usage (wrote.whole text (once.usage a e t) took) h = inl e
   wrote_usage (wrote.whole text (once.unread file a f e t) took) h = let no : None ≡ Some (Once file) = sym h ∙ a in absurd cc
   wrote_usage (wrote.cut text e why begins took) h = inr (inl e)
@@ -89,7 +89,7 @@ module _ (holds : List ℕ → Option (Option (List ℕ))) (unread unwritten : T
   -- accepted bytes, where the files tell them
   pub wrote_accepted : Wrote holds unread unwritten words status before now → (file all : List ℕ) (nb : List Cell) → command_of words ≡ Some (Once file) → holds file ≡ Some (Some all) → IsAccepted (read_of all) nb → (status ≡ 0) ⊎ (status ≡ 3) ⊎ (status ≡ 4) ⊎ (status ≡ 5)
   wrote_accepted (wrote.whole text (once.opened f bytes n a r acc e t) took) file all nb asked told ok = inl e
-  wrote_accepted (wrote.whole text (once.refused f bytes line a r none formless e t) took) file all nb asked told ok =
+  wrote_accepted (wrote.whole text (once.refused f bytes why a r none first e t) took) file all nb asked told ok =
       absurd (none nb (subst (λ bs. IsAccepted bs nb) (sym (read_is_of holds words f file bytes all a asked told r)) ok))
   wrote_accepted (wrote.whole text (once.usage a e t) took) file all nb asked told ok = let no : None ≡ Some (Once file) = sym a ∙ asked in absurd cc
   wrote_accepted (wrote.whole text (once.unread f a why e t) took) file all nb asked told ok = inr (inl e)

@@ -1,3 +1,4 @@
 pub mod Opened
+pub mod Refused
 pub mod Unopened
 pub mod Wrote

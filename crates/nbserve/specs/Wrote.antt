@@ -1,7 +1,7 @@
 -- What the program wrote at each status.
 use Rattle.std.specs.Prelude.{◌≡◌, ℕ, List, Option}
 use Rattle.link_io.specs.Outside.{Took, TookPart}
-use Rattle.notebook_meaning.specs.Once.{Comes, Begins, refusal_text}
+use Rattle.notebook_meaning.specs.Once.{Comes, Begins, Refusal, refusal_text}
 
 -- The text of the status; or, where a write failed (4) or memory was wanting (5), nothing or a beginning of a text that the run
 -- comes to. `holds` is what the names of files stand for, where that is told; `unread` says that a read failed, and `unwritten`
@@ -19,6 +19,6 @@ pub data Ended (status : ℕ) (text : List ℕ) (result : ℕ) (before now : Opt
   cut : result ≡ 4 → unwritten → TookPart before now text → Ended status text result before now unwritten
 
 -- the line of a refused notebook was written, or a beginning of it, or memory was wanting and nothing was written
-pub data Refuses (line result : ℕ) (before now : Option (List ℕ)) (unwritten : Type 0) : Type 0 where
-  written : Ended 1 (refusal_text line) result before now unwritten → Refuses line result before now unwritten
-  nothing : result ≡ 5 → now ≡ before → Refuses line result before now unwritten
+pub data Refuses (why : Refusal) (result : ℕ) (before now : Option (List ℕ)) (unwritten : Type 0) : Type 0 where
+  written : Ended 1 (refusal_text why) result before now unwritten → Refuses why result before now unwritten
+  nothing : result ≡ 5 → now ≡ before → Refuses why result before now unwritten

@@ -4,12 +4,13 @@
 ghost use Rattle.std.specs.Prelude.{◌≡◌, ◌<◌};
 
 mod cell_frame;
+mod opening;
 mod progress;
+mod refusal;
 #[cfg(test)]
 mod tests;
 mod texts;
 mod top;
-mod unopened;
 mod words;
 
 use link_io::{RealFiles, RealOut};
@@ -34,11 +35,18 @@ fn run_really<L: Ledger>(rt: &HostRuntime, words: &[String], blank: Blank) -> u8
 // The words of the command line without the program's own name; none where memory is wanting. A word that is no text is no word
 // of any command, so there are then no words.
 fn words_of(rt: &HostRuntime) -> Option<Vec<String>> {
+    let mut words = Vec::new(rt.alloc());
     match env::args(rt) {
-        Ok(all) => all.skip(1).collect(rt.alloc()).ok(),
-        Err(why) if why.kind() == ErrorKind::InvalidData => Some(Vec::new(rt.alloc())),
-        Err(_) => None,
+        Ok(all) => {
+            // `collect` would ask for more room than is needed, and go on where that is refused.
+            for word in all.skip(1) {
+                words.push(word).ok()?;
+            }
+        }
+        Err(why) if why.kind() == ErrorKind::InvalidData => {}
+        Err(_) => return None,
     }
+    Some(words)
 }
 
 fn main(rt: HostRuntime) -> ExitCode {

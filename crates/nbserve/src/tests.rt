@@ -111,8 +111,12 @@ fn with_words<'a>(words: &'a [&'a str]) -> Case<'a> {
 
 #[test]
 fn opens_notebooks(rt: HostRuntime) -> Result<(), Fail> {
-    let cases: [(&[u8], &[u8]); 4] = [
+    let cases: [(&[u8], &[u8]); 5] = [
         (CHAIN, CHAIN_FRAMES),
+        (
+            b"import marimo\napp = marimo.App()\n@app.cell\ndef _():\n    a = 1\n    a = a + 1\n    a\nif __name__ == \"__main__\":\n    app.run()\n",
+            b"{\"cell\":0,\"console\":[],\"error\":null,\"output\":{\"text\":\"2\",\"type\":\"plain\"},\"status\":\"ok\"}\n{\"done\":1}\n",
+        ),
         (
             b"import marimo\napp = marimo.App()\nif __name__ == \"__main__\":\n    app.run()\n",
             b"{\"done\":0}\n",
@@ -134,17 +138,64 @@ fn opens_notebooks(rt: HostRuntime) -> Result<(), Fail> {
     Ok(())
 }
 
+// The file of cells with these bodies.
+fn file_of(alloc: Global, bodies: &[&str]) -> Result<Vec<u8>, AllocError> {
+    let mut text = String::from_str(alloc, "import marimo\napp = marimo.App()\n")?;
+    for body in bodies {
+        write!(text, "@app.cell\ndef _():\n    {body}\n")?;
+    }
+    text.push_str("if __name__ == \"__main__\":\n    app.run()\n")?;
+    Vec::from_slice(alloc, text.as_bytes())
+}
+
 #[test]
 fn refuses_doubled_names_and_cycles(rt: HostRuntime) -> Result<(), Fail> {
-    let cases: [&[u8]; 2] = [
-        b"import marimo\napp = marimo.App()\n@app.cell\ndef _():\n    b = 1\n@app.cell\ndef _():\n    b = 1\nif __name__ == \"__main__\":\n    app.run()\n",
-        b"import marimo\napp = marimo.App()\n@app.cell\ndef _():\n    a = b\n@app.cell\ndef _():\n    b = a\nif __name__ == \"__main__\":\n    app.run()\n",
+    let cases: [(&[&str], &str); 9] = [
+        (
+            &["a = 1", "b = 1", "c = 1", "b = 1"],
+            "refused doubly b 1 3\n",
+        ),
+        (&["x = 1", "x = 2", "x = 3"], "refused doubly x 0 1\n"),
+        (
+            &["p = 1", "q = 1", "q = 2\n    p = 3"],
+            "refused doubly q 1 2\n",
+        ),
+        (
+            &["a = 1\n    a = 2", "b = a", "a = 3"],
+            "refused doubly a 0 2\n",
+        ),
+        (&["a = b", "b = a", "a = 1"], "refused doubly a 0 2\n"),
+        (
+            &["a = c", "b = a", "c = b", "d = a"],
+            "refused cycle 0 1 2\n",
+        ),
+        (&["a = b", "b = a"], "refused cycle 0 1\n"),
+        (
+            &["a = b", "c = d", "b = a", "n = 1", "d = c"],
+            "refused cycle 0 1 2 4\n",
+        ),
+        (
+            &["x = 1", "a = b + x", "b = a", "y = b", "c = y + d", "d = c"],
+            "refused cycle 1 2 4 5\n",
+        ),
     ];
-    for text in cases {
-        let answer = answered(rt.alloc(), opened(text))?;
+    for (bodies, wanted) in cases {
+        let text = file_of(rt.alloc(), bodies)?;
+        let answer = answered(rt.alloc(), opened(text.as_slice()))?;
         assert_eq!(rt; answer.status, 1);
-        assert_eq!(rt; answer.written.as_slice(), b"refused 0 Thin\n".as_slice());
+        assert_eq!(rt; answer.written.as_slice(), wanted.as_bytes());
     }
+    Ok(())
+}
+
+#[test]
+fn tests_the_form_first(rt: HostRuntime) -> Result<(), Fail> {
+    // `b` is defined in two cells, and the last line has no line end.
+    let text =
+        b"import marimo\napp = marimo.App()\n@app.cell\ndef _():\n    b = 1\n@app.cell\ndef _():\n    b = 1\nif __name__ == \"__main__\":\n    app.run()";
+    let answer = answered(rt.alloc(), opened(text))?;
+    assert_eq!(rt; answer.status, 1);
+    assert_eq!(rt; answer.written.as_slice(), b"refused 10 Thin\n".as_slice());
     Ok(())
 }
 

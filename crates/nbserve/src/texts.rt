@@ -1,13 +1,12 @@
-// What is written: the frames of the opening, or why a notebook is refused.
-ghost use Rattle.std.specs.Prelude.{◌≡◌, ◌∷◌, [], ◌++◌, ◌<◌, ◌^◌, IfOk, OnOk, length, map, string_bytes};
+// The text of an answer.
+ghost use Rattle.std.specs.Prelude.{◌≡◌, ◌∷◌, [], ◌++◌, ◌<◌, ◌^◌, IfOk, OnOk, length, map};
 ghost use Rattle.notebook_meaning.specs.FrameText.{frame_text, frame_lines};
-ghost use Rattle.notebook_meaning.specs.Once as once;
 ghost use Rattle.notebook_meaning.specs.declared.frames.Frame.TheVariants as frame;
 
 use nb_json::push_frame;
 use notebook_meaning::{CellFrame, Frame};
 use py_value::Memory;
-use std::alloc::{AllocError, Global};
+use std::alloc::Global;
 
 // Appends a frame and a line end.
 fn push_line(alloc: Global, out: &mut Vec<u8>, frame: &Frame) -> Result<(), Memory>
@@ -30,11 +29,4 @@ pub fn answer_text(alloc: Global, frames: Vec<CellFrame>) -> Result<Vec<u8>, Mem
     }
     push_line(alloc, &mut out, &Frame::Done(count))?;
     Ok(out)
-}
-
-/// The line for a notebook that is refused.
-pub fn refusal_text(alloc: Global, line: u32) -> Result<String, AllocError>
-    ensures { IfOk result (λ text. string_bytes text ≡ once.refusal_text line) }
-{
-    format!(in alloc; "refused {line} Thin\n")
 }

@@ -1,12 +1,13 @@
 // The top call.
 ghost use Rattle.std.specs.Prelude.{◌≡◌, ◌⊎◌, ℕ, ◌≤◌, List, map, string_bytes, Some, None};
 ghost use Rattle.link_io.specs.Outside.{Rose};
+ghost use Rattle.nbserve.specs.Refused.{refusal_of};
 ghost use Rattle.nbserve.specs.Wrote.{Wrote, Ended, Refuses};
 ghost use Rattle.notebook_meaning.specs.Once.{Once, command_of, IsAccepted, read_of};
 ghost use Rattle.py_tree.specs.Trees.{Cell};
 
-use crate::texts::refusal_text;
-use crate::unopened::{Unopened, opening_text};
+use crate::opening::{Unopened, opening_text};
+use crate::refusal::{Refusal, refusal_text};
 use crate::words::once_file;
 use link_io::{Files, ReadFault, Sink, read_file, write_all};
 use py_eval::Steps;
@@ -59,16 +60,16 @@ fn run_once<F: Files, O: Sink, L: Ledger>(
     };
     match opening_text(alloc, bytes.as_slice(), steps) {
         Ok(text) => end_with(out, text.as_slice(), DONE),
-        Err(Unopened::Refused { line }) => refuse(alloc, line, out),
+        Err(Unopened::Refused(why)) => refuse(alloc, &why, out),
         Err(Unopened::Memory) => WANT_OF_MEMORY,
     }
 }
 
 // Writes why a notebook is refused.
-fn refuse<O: Sink>(alloc: Global, line: u32, out: &mut O) -> u8
-    ensures { Refuses line result (O.taken out.old) (O.taken out.new) (Rose (O.faults out.old) (O.faults out.new)) }
+fn refuse<O: Sink>(alloc: Global, why: &Refusal, out: &mut O) -> u8
+    ensures { Refuses (refusal_of why.now) result (O.taken out.old) (O.taken out.new) (Rose (O.faults out.old) (O.faults out.new)) }
 {
-    match refusal_text(alloc, line) {
+    match refusal_text(alloc, why) {
         Ok(text) => end_with(out, text.as_bytes(), REFUSED),
         Err(_) => WANT_OF_MEMORY,
     }

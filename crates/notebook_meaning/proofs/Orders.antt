@@ -101,7 +101,7 @@ none_among [] = refl
 none_among (x ∷ xs) = none_among xs
 
 -- an edge begins at a cell
-from_cell : (nb : List Cell) (a b : ℕ) → edge nb a b ≡ true → a < length nb
+pub from_cell : (nb : List Cell) (a b : ℕ) → edge nb a b ≡ true → a < length nb
 from_cell nb a b h = ⊎_elim
     (λ below. below)
     (λ past.
@@ -109,6 +109,14 @@ from_cell nb a b h = ⊎_elim
     let bad : edge nb a b ≡ false = ap (λ ds. list_any (λ x. is_among x ds) (refs_of nb b)) none ∙ none_among (refs_of nb b) in
     absurd (both_ways _ bad h))
     (cases_lt a (length nb))
+
+chain_below : (nb : List Cell) (a : ℕ) (between : List ℕ) (c : ℕ) → IsChain nb (a ∷ between ++ c ∷ []) → a < length nb
+chain_below nb a [] c chain = from_cell nb a c chain.0
+chain_below nb a (b ∷ bs) c chain = from_cell nb a b chain.0
+
+-- what lies on a cycle is a cell
+pub on_cycle_below : (nb : List Cell) (c : ℕ) → LiesOnCycle nb c → c < length nb
+on_cycle_below nb c cycle = chain_below nb c cycle.0 c cycle.1
 
 is_cell_number : (nb : List Cell) (c : ℕ) → c < length nb → is_in c (all_cells nb) ≡ true
 is_cell_number nb c h = numbered 0 nb c (omega arith) (omega arith)
@@ -196,7 +204,7 @@ chain_back : (nb : List Cell) (k a : ℕ) (between : List ℕ) (c : ℕ) → IsC
 chain_back nb k a [] c chain h = step_back nb k a c chain.0 h
 chain_back nb k a (b ∷ bs) c chain h = step_back nb k a b chain.0 (kept_next nb k b (chain_back nb k b bs c chain.1 h))
 
-not_on_cycle : (nb : List Cell) (k c : ℕ) → is_in c (places nb k) ≡ true → LiesOnCycle nb c → ⊥
+pub not_on_cycle : (nb : List Cell) (k c : ℕ) → is_in c (places nb k) ≡ true → LiesOnCycle nb c → ⊥
 not_on_cycle nb zero c h cycle = both_ways false refl h
 not_on_cycle nb (suc k) c h cycle = not_on_cycle nb k c (chain_back nb k c cycle.0 c cycle.1 h) cycle
 
@@ -333,4 +341,21 @@ short_is_cyclic nb short free = ⊎_elim
     (λ stuck.
     let missing = missing_below (order nb) (length nb) short in
     no_long_walk nb (order nb) (walk nb (order nb) missing.0 stuck free missing.1 missing.2 (length nb)))
+    (full_or_stuck nb (length nb))
+
+-- ---- the order and cycles
+
+-- where the order lists every cell, none lies on a cycle
+pub listed_is_free : (nb : List Cell) → ((c : ℕ) → c < length nb → is_in c (order nb) ≡ true) → NoneCyclic nb
+listed_is_free nb each c below = not_on_cycle nb (length nb) c (each c below)
+
+-- where no cell lies on a cycle, the order lists every cell
+pub free_is_listed : (nb : List Cell) → NoneCyclic nb → (c : ℕ) → c < length nb → is_in c (order nb) ≡ true
+free_is_listed nb free c below = ⊎_elim
+    (λ full. all_listed nb c full below)
+    (λ stuck.
+    ⊎_elim
+    (λ listed. listed)
+    (λ absent. absurd (no_long_walk nb (order nb) (walk nb (order nb) c stuck free below absent (length nb))))
+    (cases_Bool (is_in c (order nb))))
     (full_or_stuck nb (length nb))

@@ -38,13 +38,13 @@ is_in c cs = list_any (λ d. d == c) cs
 abbrev pub parents : List Cell → ℕ → List ℕ
 parents nb c = filter (λ a. edge nb a c) (all_cells nb)
 
--- a list of one or more cells in which an edge joins each to the next
+-- one cell or more, each joined to the next by an edge
 abbrev pub IsChain : List Cell → List ℕ → Type 0
 IsChain nb [] = ⊥
 IsChain nb (a ∷ []) = Unit {0}
 IsChain nb (a ∷ b ∷ cs) = IsTrue (edge nb a b) × IsChain nb (b ∷ cs)
 
--- a chain of two or more leads from the cell to itself
+-- edges lead from the cell, over the cells between, back to it
 abbrev pub LiesOnCycle : List Cell → ℕ → Type 0
 LiesOnCycle nb c = (between : List ℕ) × IsChain nb (c ∷ between ++ c ∷ [])
 
@@ -52,7 +52,7 @@ LiesOnCycle nb c = (between : List ℕ) × IsChain nb (c ∷ between ++ c ∷ []
 abbrev pub is_ready : List Cell → List ℕ → ℕ → Bool
 is_ready nb listed c = not (is_in c listed) && list_all (λ p. is_in p listed) (parents nb c)
 
--- the first cell in file order, not yet listed, all of whose parents are listed
+-- the earliest cell of the file that isn't listed, while its parents are
 abbrev pub next_cell : List Cell → List ℕ → Option ℕ
 next_cell nb listed = find (is_ready nb listed) (all_cells nb)
 
@@ -65,8 +65,7 @@ abbrev pub places : List Cell → ℕ → List ℕ
 places nb zero = []
 places nb (suc k) = let listed = places nb k in with_next (next_cell nb listed) listed
 
--- The order in which cells run: at each place stands the first cell in file order, not yet listed, all of whose parents are
--- listed. It lists no cell of a cycle.
+-- The order in which cells run: the next one is always the earliest of the file that isn't listed yet while its parents are.
 abbrev pub order : List Cell → List ℕ
 order nb = places nb (length nb)
 
@@ -78,6 +77,17 @@ defined_before nb c x = list_any (λ a. nat_lt a c && is_among x (defs_of nb a))
 abbrev pub name_again : List Cell → ℕ → Option Name
 name_again nb c = find (defined_before nb c) (defs_of nb c)
 
+-- the first cell in file order that defines the name
+abbrev pub first_definer : List Cell → Name → Option ℕ
+first_definer nb x = find (λ c. is_among x (defs_of nb c)) (all_cells nb)
+
+-- A name that is defined again: `second` is the earliest cell that defines a name of a cell before it, `x` is the first of its
+-- names that is so, and `first` is where `x` is defined first.
+pub record IsDoubled (nb : List Cell) (x : Name) (first second : ℕ) : Type 0 where
+  pub again : name_again nb second ≡ Some x
+  pub soonest : (c : ℕ) → c < second → name_again nb c ≡ None
+  pub earliest : first_definer nb x ≡ Some first
+
 -- no name is defined in two cells
 abbrev pub NoneDoubled : List Cell → Type 0
 NoneDoubled nb = (c : ℕ) → name_again nb c ≡ None
@@ -85,3 +95,9 @@ NoneDoubled nb = (c : ℕ) → name_again nb c ≡ None
 -- no cell lies on a cycle
 abbrev pub NoneCyclic : List Cell → Type 0
 NoneCyclic nb = (c : ℕ) → c < length nb → LiesOnCycle nb c → ⊥
+
+-- the cells that lie on a cycle, each once, in file order
+pub record AreCyclic (nb : List Cell) (cells : List ℕ) : Type 0 where
+  pub each : (c : ℕ) → IsTrue (is_in c cells) → LiesOnCycle nb c
+  pub every : (c : ℕ) → LiesOnCycle nb c → IsTrue (is_in c cells)
+  pub rising : cells ≡ filter (λ c. is_in c cells) (all_cells nb)

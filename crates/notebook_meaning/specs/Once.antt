@@ -1,8 +1,9 @@
 -- What the program writes, and its status.
-use Rattle.std.specs.Prelude.{◌≡◌, ◌⊎◌, ℕ, ◌+◌, Bool, false, cond, not, ◌&&◌, ◌==◌, List, [], ◌∷◌, ◌++◌, take, codes, decimal, Option, Some, None, IfSome}
+use Rattle.std.specs.Prelude.{◌≡◌, ℕ, ◌+◌, ◌<◌, Bool, false, cond, not, ◌&&◌, ◌==◌, List, [], ◌∷◌, ◌++◌, length, flat_map, take, codes, decimal, Option, Some, None, IfSome}
 use Rattle.std.specs.Str.{bytes_eq}
+use Rattle.py_tree.specs.Names.{Name}
 use Rattle.py_tree.specs.Trees.{Cell}
-use Rattle.notebook_meaning.specs.Graph.{NoneDoubled, NoneCyclic}
+use Rattle.notebook_meaning.specs.Graph.{IsDoubled, NoneDoubled, AreCyclic, NoneCyclic}
 use Rattle.notebook_meaning.specs.Thin.{IsForm, byte_limit}
 use Rattle.notebook_meaning.specs.Answer.{Open, solo}
 use Rattle.notebook_meaning.specs.FrameText.{frame_lines}
@@ -17,9 +18,28 @@ pub record IsAccepted (bytes : List ℕ) (nb : List Cell) : Type 0 where
 abbrev pub IsRefused : List ℕ → Type 0
 IsRefused bytes = (nb : List Cell) → IsAccepted bytes nb → ⊥
 
+-- no notebook's file are these bytes
+abbrev pub IsFormless : List ℕ → Type 0
+IsFormless bytes = (nb : List Cell) → IsForm bytes nb → ⊥
+
+-- why bytes are refused
+pub data Refusal : Type 0 where
+  Thin : (line : ℕ) → Refusal
+  Doubly : (x : Name) → (first second : ℕ) → Refusal
+  Cycle : (cells : List ℕ) → Refusal
+
+-- The first test that bytes fail: they have the form, no name is defined again, no cell lies on a cycle. Of the line of bytes
+-- that have not the form nothing is said.
+abbrev pub FailsFirst : List ℕ → Refusal → Type 0
+FailsFirst bytes (Thin line) = IsFormless bytes
+FailsFirst bytes (Doubly x first second) = (nb : List Cell) × IsForm bytes nb × IsDoubled nb x first second
+FailsFirst bytes (Cycle cells) = (nb : List Cell) × IsForm bytes nb × NoneDoubled nb × AreCyclic nb cells × (0 < length cells)
+
 -- the line that is written for bytes that are refused
-abbrev pub refusal_text : ℕ → List ℕ
-refusal_text line = codes "refused " ++ decimal line ++ codes " Thin\n"
+abbrev pub refusal_text : Refusal → List ℕ
+refusal_text (Thin line) = codes "refused " ++ decimal line ++ codes " Thin\n"
+refusal_text (Doubly x first second) = codes "refused doubly " ++ x ++ codes " " ++ decimal first ++ codes " " ++ decimal second ++ codes "\n"
+refusal_text (Cycle cells) = codes "refused cycle" ++ flat_map (λ c. codes " " ++ decimal c) cells ++ codes "\n"
 
 -- the usual budget of a cell
 abbrev pub usual_budget : ℕ
@@ -53,19 +73,15 @@ read_of bytes = take (byte_limit + 1) bytes
 abbrev pub AreRead : (List ℕ → Option (Option (List ℕ))) → List ℕ → List ℕ → Type 0
 AreRead holds file bytes = IfSome (holds file) (λ told. (all : List ℕ) × (told ≡ Some all) × (bytes ≡ read_of all))
 
--- no notebook's file are these bytes
-abbrev pub IsFormless : List ℕ → Type 0
-IsFormless bytes = (nb : List Cell) → IsForm bytes nb → ⊥
-
 -- The status and the whole text that a run of the program comes to where nothing stops it. `holds` is what the names of files
 -- stand for, where that is told: nothing, or some bytes. `failed` says that a read failed.
 pub data Comes (holds : List ℕ → Option (Option (List ℕ))) (failed : Type 0) (words : List (List ℕ)) (status : ℕ) (text : List ℕ) : Type 0 where
   -- 0: the notebook was opened
   opened : (file bytes : List ℕ) (nb : List Cell) → command_of words ≡ Some (Once file) → AreRead holds file bytes
       → IsAccepted bytes nb → status ≡ 0 → text ≡ once_text nb → Comes holds failed words status text
-  -- 1: the bytes are refused; line 0 stands for a name that is defined in two cells, and for a cycle
-  refused : (file bytes : List ℕ) (line : ℕ) → command_of words ≡ Some (Once file) → AreRead holds file bytes
-      → IsRefused bytes → IsFormless bytes ⊎ (line ≡ 0) → status ≡ 1 → text ≡ refusal_text line → Comes holds failed words status text
+  -- 1: the bytes are refused, for the first test that they fail
+  refused : (file bytes : List ℕ) (why : Refusal) → command_of words ≡ Some (Once file) → AreRead holds file bytes
+      → IsRefused bytes → FailsFirst bytes why → status ≡ 1 → text ≡ refusal_text why → Comes holds failed words status text
   -- 2: the words are no form
   usage : command_of words ≡ None → status ≡ 2 → text ≡ codes "usage\n" → Comes holds failed words status text
   -- 3: the file couldn't be read

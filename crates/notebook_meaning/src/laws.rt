@@ -1,19 +1,20 @@
 // Worked notebooks and laws, computed and proved from the definitions.
 ghost use Rattle.std.specs.Prelude.{◌≡◌, ℕ, ◌<◌, true, List, [], ◌∷◌, length, codes};
 ghost use Rattle.py_tree.specs.Trees.{Tree, Stmts, Cell};
-ghost use Rattle.notebook_meaning.specs.Graph.{order, name_again, LiesOnCycle, NoneCyclic};
+ghost use Rattle.notebook_meaning.specs.Graph.{order, is_in, LiesOnCycle, NoneCyclic};
 ghost use Rattle.notebook_meaning.specs.Meaning.{Scene, Env, value_of, block_of};
 ghost use Rattle.notebook_meaning.specs.Runs.{HasOneRun};
 ghost use Rattle.notebook_meaning.specs.Whole.{whole};
 ghost use Rattle.notebook_meaning.specs.Thin.{are_thin, file_lines, text_of};
-ghost use Rattle.notebook_meaning.specs.Once.{IsAccepted, usual_budget, once_text};
+ghost use Rattle.notebook_meaning.specs.Once.{IsAccepted, Doubly, Cycle, FailsFirst, refusal_text, usual_budget, once_text};
 ghost use Rattle.notebook_meaning.specs.Samples.{three_cells, three_cells_file, three_cells_text, lone_name, lone_name_text, failing, failing_text, doubled, cyclic, diamond, too_great, too_great_text, four_steps};
 ghost use Rattle.notebook_meaning.specs.Spending.{Spent, runs, cost_of};
 
-/// No cell lies on a cycle where the order has as many places as there are cells; it can't be that none does where it has fewer.
+/// The order lists every cell exactly where no cell lies on a cycle, and it lists no cell of a cycle.
 pub fn order_and_cycles()
-    ensures full { (nb : List Cell) → length (order nb) ≡ length nb → NoneCyclic nb }
-    ensures short { (nb : List Cell) → length (order nb) < length nb → NoneCyclic nb → ⊥ }
+    ensures free { (nb : List Cell) → ((c : ℕ) → c < length nb → is_in c (order nb) ≡ true) → NoneCyclic nb }
+    ensures lists { (nb : List Cell) → NoneCyclic nb → (c : ℕ) → c < length nb → is_in c (order nb) ≡ true }
+    ensures none { (nb : List Cell) (c : ℕ) → is_in c (order nb) ≡ true → LiesOnCycle nb c → ⊥ }
 {}
 
 /// An expression and a block have one run each, its beginnings that are cut, and each budget picks one of them.
@@ -22,7 +23,8 @@ pub fn one_run()
     ensures block { (scene : Scene) (env : Env) (block : Stmts) → HasOneRun (block_of scene env block) }
 {}
 
-/// What the definitions say of small notebooks: the order, the file, what is written for them, and what their cells cost.
+/// What the definitions say of small notebooks: the order, the file, what is written for them, what their cells cost, and why one is
+/// refused.
 pub fn worked_notebooks()
     ensures order { order three_cells ≡ 2 ∷ 1 ∷ 0 ∷ [] }
     ensures thin { are_thin three_cells ≡ true }
@@ -33,11 +35,11 @@ pub fn worked_notebooks()
     ensures none { once_text [] ≡ codes "{\"done\":0}\n" }
     ensures unbound { once_text lone_name ≡ lone_name_text }
     ensures cancelled { once_text failing ≡ failing_text }
-    ensures doubled { name_again doubled 3 ≡ Some (codes "b") }
-    ensures single { (c : ℕ) → c < 3 → name_again doubled c ≡ None }
+    ensures doubled { FailsFirst (text_of (file_lines doubled)) (Doubly (codes "b") 1 3) }
+    ensures doubled_line { refusal_text (Doubly (codes "b") 1 3) ≡ codes "refused doubly b 1 3\n" }
     ensures blocked { order cyclic ≡ [] }
-    ensures cycle { LiesOnCycle cyclic 0 }
-    ensures aside { LiesOnCycle cyclic 3 → ⊥ }
+    ensures cycle { FailsFirst (text_of (file_lines cyclic)) (Cycle (0 ∷ 1 ∷ 2 ∷ [])) }
+    ensures cycle_line { refusal_text (Cycle (0 ∷ 1 ∷ 2 ∷ [])) ≡ codes "refused cycle 0 1 2\n" }
     ensures diamond { order diamond ≡ 3 ∷ 1 ∷ 2 ∷ 0 ∷ [] }
     ensures range { once_text too_great ≡ too_great_text }
     ensures range_costs { (whole too_great usual_budget []).costs ≡ 2 ∷ 4 ∷ 0 ∷ 2 ∷ [] }

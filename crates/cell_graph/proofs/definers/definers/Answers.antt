@@ -1,20 +1,21 @@
--- What is wrong with the lists so far is wrong with all.
-use Rattle.std.proofs.Common.{◌≡◌, ◌+◌, List, [], ◌∷◌, ◌++◌, length, take, sym, ap, ◌∙◌, subst, arith}
-use Rattle.std.proofs.lemmas.List.{take_more, length-take-le}
+-- The cause of a refusal is the same, whatever lists stand after those so far.
+use Rattle.std.proofs.Common.{◌≡◌, ◌+◌, List, ◌∷◌, ◌++◌, length, get_or, take, drop, drop-cons, add-one, sym, ap, ◌∙◌, subst, arith}
+use Rattle.std.proofs.lemmas.List.{length-take-le, take-append-drop}
 use Rattle.std.proofs.lemmas.Result.{err_from_is_err_and}
 use Rattle.py_tree.specs.Names.{Name}
-use Rattle.cell_graph.specs.Definers.{IsCauseIn}
-use Rattle.cell_graph.proofs.LookUps.{cause_of_first}
+use Rattle.cell_graph.specs.Kept.{AreDefs}
 use Rattle.cell_graph.proofs.definers.definers.Goals as goal
 
 pub returns-in_err-add_definitions-clause-refused : goal.returns-in_err-add_definitions-clause-refused
 returns-in_err-add_definitions-clause-refused c =
+    let p = err_from_is_err_and c.from_residual.result c.from_residual.ensures.1 in
+    rw (p.1, p.2) (λ nb kept.
     let defined : List (List Name) = c.args.defined.now in
     let n = c.loop-cell.cell in
     let long : length (take n defined) ≡ n = length-take-le n defined (omega arith) in
-    let cause = c.in_err-add_definitions.ensures.refused (take n defined) long c.loop-cell.invariant in
-    let more : take n defined ++ c.items.result.now ∷ [] ≡ take (n + 1) defined =
-    ap (λ (y : List Name). take n defined ++ y ∷ []) (c.items.ensures ∙ c.index-defined-cell.is)
-    ∙ sym (take_more defined n c.index-defined-cell.result c.loop-cell-test.true) in
-    let p = err_from_is_err_and c.from_residual.result c.from_residual.ensures.1 in
-    rw (p.1, p.2) (cause_of_first c.in_err-add_definitions.field-0.0 defined (n + 1) (subst (IsCauseIn c.in_err-add_definitions.field-0.0) more cause))
+    let own : List Name = c.index-defined-cell.result in
+    let next : drop n defined ≡ get_or defined n own ∷ drop (n + 1) defined = grind (arith, drop-cons defined n own, add-one, c.loop-cell-test.true) in
+    let whole : take n defined ++ c.items.result.now ∷ drop (n + 1) defined ≡ defined =
+    ap (λ (ns : List Name). take n defined ++ ns ∷ drop (n + 1) defined) (c.items.ensures ∙ c.index-defined-cell.is)
+    ∙ ap (λ ls. take n defined ++ ls) (sym next) ∙ take-append-drop n defined in
+    c.in_err-add_definitions.ensures.refused nb (take n defined) (drop (n + 1) defined) long (subst (AreDefs nb) (sym whole) kept) c.loop-cell.invariant)

@@ -6,7 +6,7 @@ use Rattle.nbserve.proofs.Steps.{ordered_below, goes_on, steps_more, few_frames}
 use Rattle.nbserve.proofs.progress.open_notebook.Goals as goal
 
 pub take_cell-requires-clause-there : goal.take_cell-requires-clause-there
-take_cell-requires-clause-there g c = ordered_below c.args.notebook.now c.order-cell-items.result.now c.loop-cell.cell-index c.order-cell-items.ensures c.loop-cell-test.true
+take_cell-requires-clause-there g c = ordered_below c.args.notebook.now c.order-cell-items.result.now c.loop-cell.cell-index c.order-cell-items.ensures.order c.loop-cell-test.true
 
 pub loop-cell-preserved : goal.loop-cell-preserved
 loop-cell-preserved g c =
@@ -26,4 +26,4 @@ loop-cell-preserved g c =
 
 pub returns-clause-few : goal.returns-clause-few
 returns-clause-few g c =
-    few_frames c.args.notebook.now c.order-cell-items.result.now c.loop-cell.progress.frames.items c.loop-cell.cell-index c.requires c.order-cell-items.ensures c.loop-cell.auto.cell-index-end c.loop-cell.invariant.count
+    few_frames c.args.notebook.now c.order-cell-items.result.now c.loop-cell.progress.frames.items c.loop-cell.cell-index c.requires c.order-cell-items.ensures.order c.loop-cell.auto.cell-index-end c.loop-cell.invariant.count

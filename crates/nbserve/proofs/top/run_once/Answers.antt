@@ -4,6 +4,7 @@ use Rattle.std.specs.Prelude.{Err}
 use Rattle.nbserve.proofs.Written.{ended_wrote, nothing_wrote, refused_wrote, comes_opened, comes_refused}
 use Rattle.notebook_meaning.specs.Once as once
 use Rattle.notebook_meaning.specs.Once.{AreRead}
+use Rattle.nbserve.specs.Refused.{refusal_of}
 use Rattle.nbserve.specs.Unopened.{IsOpening, IsWhy}
 use Rattle.nbserve.proofs.top.run_once.Goals as goal
 
@@ -24,8 +25,8 @@ returns-in-Ok-opening_text g c words asked =
 
 pub returns-in-Err-Refused : goal.returns-in-Err-Refused
 returns-in-Err-Refused g c words asked =
-    refused_wrote _ _ _ words c.in-Err-Refused.line c.refuse.result _ _
-    (comes_refused _ _ words c.args.file.now c.as_slice.result.now c.in-Err-Refused.line asked
+    refused_wrote _ _ _ words (refusal_of c.in-Err-Refused.why) c.refuse.result _ _
+    (comes_refused _ _ words c.args.file.now c.as_slice.result.now (refusal_of c.in-Err-Refused.why) asked
     (subst (AreRead (g.F.Files.holds c.args.files.now) c.args.file.now) (sym c.as_slice.ensures.value) c.in-Ok.ensures.read)
     (subst (λ why. IsWhy why c.as_slice.result.now) c.in-Err-Refused.field-0-is c.in-Err-Refused.ensures.refused))
     c.refuse.ensures

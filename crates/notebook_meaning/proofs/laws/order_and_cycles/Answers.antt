@@ -1,9 +1,13 @@
--- Both directions are lemmas about places.
-use Rattle.notebook_meaning.proofs.Orders.{full_is_free, short_is_cyclic}
+-- Each direction is a lemma about places.
+use Rattle.std.proofs.Common.{length}
+use Rattle.notebook_meaning.proofs.Orders.{listed_is_free, free_is_listed, not_on_cycle}
 use Rattle.notebook_meaning.proofs.laws.order_and_cycles.Goals as goal
 
-pub returns-clause-full : goal.returns-clause-full
-returns-clause-full c = full_is_free
+pub returns-clause-free : goal.returns-clause-free
+returns-clause-free c = listed_is_free
 
-pub returns-clause-short : goal.returns-clause-short
-returns-clause-short c = short_is_cyclic
+pub returns-clause-lists : goal.returns-clause-lists
+returns-clause-lists c = free_is_listed
+
+pub returns-clause-none : goal.returns-clause-none
+returns-clause-none c = λ nb d listed cycle. not_on_cycle nb (length nb) d listed cycle

@@ -3,6 +3,7 @@ ghost use Rattle.std.specs.Prelude.{◌≡◌, IfErr, IfOk};
 ghost use Rattle.nbserve.specs.Unopened.{IsOpening, IsWhy, of_form, of_graph};
 
 use crate::progress::open_notebook;
+use crate::refusal::Refusal;
 use crate::texts::answer_text;
 use cell_graph::{GraphFault, notebook};
 use line_parser::{ThinFault, thin};
@@ -12,10 +13,10 @@ use std::alloc::Global;
 use std::sync::ledger::Ledger;
 
 /// Why a notebook isn't opened.
-#[derive(Clone, Copy, Debug)]
+#[derive(Debug, Drop)]
 pub enum Unopened {
-    /// It is refused, at this line; line 0 stands for a file that is too long, a name that is defined in two cells, and a cycle.
-    Refused { line: u32 },
+    /// It is refused.
+    Refused(Refusal),
     /// Memory was wanting.
     Memory,
 }
@@ -28,7 +29,7 @@ impl From<ThinFault> for Unopened {
 
     fn from(fault: ThinFault) -> Unopened {
         match fault {
-            ThinFault::Thin { line } => Unopened::Refused { line },
+            ThinFault::Thin { line } => Unopened::Refused(Refusal::Thin { line }),
             ThinFault::Memory => Unopened::Memory,
         }
     }
@@ -42,8 +43,18 @@ impl From<GraphFault> for Unopened {
 
     fn from(fault: GraphFault) -> Unopened {
         match fault {
-            GraphFault::Doubly => Unopened::Refused { line: 0 },
-            GraphFault::Cycle => Unopened::Refused { line: 0 },
+            GraphFault::Doubly {
+                name,
+                first,
+                second,
+            } => {
+                Unopened::Refused(Refusal::Doubly {
+                    name,
+                    first,
+                    second,
+                })
+            }
+            GraphFault::Cycle { cells } => Unopened::Refused(Refusal::Cycle { cells }),
             GraphFault::Memory => Unopened::Memory,
         }
     }
@@ -51,7 +62,7 @@ impl From<GraphFault> for Unopened {
 
 impl From<Memory> for Unopened {
     ghost use Rattle.std.specs.Prelude.{◌≡◌};
-    ghost use Rattle.nbserve.specs.declared.unopened.Unopened.TheVariants as unopened;
+    ghost use Rattle.nbserve.specs.declared.opening.Unopened.TheVariants as unopened;
 
     ghost from_gives = { λ fault why. why ≡ unopened.Memory };
 

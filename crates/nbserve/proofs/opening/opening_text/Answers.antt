@@ -6,7 +6,7 @@ use Rattle.nbserve.proofs.ThinCode.{thin_few}
 use Rattle.nbserve.specs.Unopened.{IsWhy, of_graph}
 use Rattle.nbserve.proofs.Outcomes.{if_err_of}
 use Rattle.nbserve.proofs.Refusing.{refused_by_graph}
-use Rattle.nbserve.proofs.unopened.opening_text.Goals as goal
+use Rattle.nbserve.proofs.opening.opening_text.Goals as goal
 
 pub notebook-requires : goal.notebook-requires
 notebook-requires g c =
@@ -17,4 +17,4 @@ pub returns-in_err-notebook-clause-refused : goal.returns-in_err-notebook-clause
 returns-in_err-notebook-clause-refused g c =
     let fault = c.in_err-notebook.field-0.0 in
     if_err_of c.from_residual-in_err-notebook.result (of_graph fault) (λ why. IsWhy why c.args.bytes.now) c.from_residual-in_err-notebook.ensures.1
-    (refused_by_graph c.args.bytes.now (view_cells c.in_ok-cells.cells.items) fault c.in_ok-cells.ensures.only c.in_err-notebook.ensures.refused)
+    (refused_by_graph c.args.bytes.now (view_cells c.in_ok-cells.cells.items) fault c.in_ok-cells.ensures.cells c.in_ok-cells.ensures.only c.in_err-notebook.ensures.refused)

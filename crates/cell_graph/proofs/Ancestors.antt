@@ -1,0 +1,257 @@
+-- Cells that are marked as those above a cell, and chains that lead to it.
+use Rattle.std.proofs.Common.{◌≡◌, ℕ, ◌+◌, ◌<◌, ◌≤◌, Bool, true, false, cond, not, ◌&&◌, ◌||◌, ◌==◌, ◌⊎◌, inl, inr, ⊎_elim, List, [], ◌∷◌, ◌++◌, length, get_or, take, filter, refl, sym, ap, ◌∙◌, subst, arith}
+use Rattle.std.specs.List.{list_any}
+use Rattle.std.proofs.lemmas.Bool.{both_ways, cases_Bool, cases_eq, cases_lt, eq-eqb, eqb-true, ne_eqb, or_cases, or_left, or_right, and_parts, and_from, not_from_false, false_from_ne_true}
+use Rattle.std.proofs.lemmas.List.{take_more, take_all, get_or_past, length-take-le, append-nil}
+use Rattle.std.proofs.lemmas.List.Elements.{filter-append}
+use Rattle.std.proofs.lemmas.Option.{slice_get-get_or, slice_get_past}
+use Rattle.py_tree.specs.Scope.{refs}
+use Rattle.py_tree.specs.Names.{is_among}
+use Rattle.py_tree.specs.Trees.{Cell}
+use Rattle.notebook_meaning.specs.Graph.{names_at, defs_of, refs_of, edge, numbers_from, all_cells, is_in, parents, IsChain, LiesOnCycle, AreCyclic}
+use Rattle.notebook_meaning.proofs.Orders.{from_cell, on_cycle_below}
+use Rattle.cell_graph.specs.Counts.{list_in}
+use Rattle.cell_graph.specs.Kept.{AreParents}
+use Rattle.cell_graph.specs.Marks.{is_marked}
+use Rattle.cell_graph.proofs.Numbers.{numbers_alike, filter_within}
+use Rattle.cell_graph.proofs.Tallies.{is_in_push, or_false, past_all}
+
+-- ---- a cell that is marked
+
+-- the cell's number is below the count of marks
+pub marked_below : (marked : List Bool) (c : ℕ) → is_marked marked c ≡ true → c < length marked
+marked_below marked c h = ⊎_elim
+    (λ below. below)
+    (λ past. absurd (both_ways _ (get_or_past marked c false past) h))
+    (cases_lt c (length marked))
+
+-- ---- chains through the lists
+
+-- the cells between lead from a to c: each stands in the list of the next
+abbrev pub Leads : List (List ℕ) → ℕ → List ℕ → ℕ → Type 0
+Leads above a [] c = is_in a (list_in above c) ≡ true
+Leads above a (b ∷ bs) c = (is_in a (list_in above b) ≡ true) × Leads above b bs c
+
+-- What is known as the cells above c are looked for: those marked lead to c, and what is in the list of one of them is marked,
+-- except where the cell is still to look at.
+pub record IsSearched (above : List (List ℕ)) (c : ℕ) (marked : List Bool) (pending : List ℕ) : Type 0 where
+  pub count : length marked ≡ length above
+  pub sound : (d : ℕ) → is_marked marked d ≡ true → (between : List ℕ) × Leads above d between c
+  pub waiting : (d : ℕ) → is_in d pending ≡ true → is_marked marked d ≡ true
+  pub first : (d : ℕ) → is_in d (list_in above c) ≡ true → is_marked marked d ≡ true
+  pub closed : (d e : ℕ) → is_marked marked e ≡ true → is_in d (list_in above e) ≡ true → (is_marked marked d ≡ true) ⊎ (is_in e pending ≡ true)
+
+-- where none is left to look at, each cell that leads to c is marked
+complete : (above : List (List ℕ)) (c : ℕ) (marked : List Bool) → IsSearched above c marked [] → (between : List ℕ) (d : ℕ)
+    → Leads above d between c → is_marked marked d ≡ true
+complete above c marked s [] d leads = s.first d leads
+complete above c marked s (b ∷ bs) d leads = ⊎_elim
+    (λ on. on)
+    (λ left. absurd (both_ways false refl left))
+    (s.closed d b (complete above c marked s bs b leads.1) leads.0)
+
+-- a cell is looked at: those in its list are marked
+module _ (above : List (List ℕ)) (c : ℕ) (marked : List Bool) (rest : List ℕ) (a : ℕ) (s : IsSearched above c marked (rest ++ a ∷ [])) where
+  last_in : is_in a (rest ++ a ∷ []) ≡ true
+  last_in = is_in_push a a rest ∙ or_right _ _ (or_left _ _ (eq-eqb a a refl))
+
+  -- it is one of those that are marked
+  pub was_marked : is_marked marked a ≡ true
+  was_marked = s.waiting a last_in
+
+  module _ (new : List Bool) (pending : List ℕ) (size : length new ≡ length marked)
+      (marks : (d : ℕ) → is_marked new d ≡ (is_marked marked d || is_in d (list_in above a)))
+      (added : (d : ℕ) → is_in d pending ≡ (is_in d rest || (is_in d (list_in above a) && not (is_marked marked d)))) where
+    kept_on : (d : ℕ) → is_marked marked d ≡ true → is_marked new d ≡ true
+    kept_on d h = marks d ∙ or_left _ _ h
+
+    now_on : (d : ℕ) → is_in d (list_in above a) ≡ true → is_marked new d ≡ true
+    now_on d h = marks d ∙ or_right (is_marked marked d) _ h
+
+    still_in : (d : ℕ) → is_in d rest ≡ true → is_in d (rest ++ a ∷ []) ≡ true
+    still_in d h = is_in_push d a rest ∙ or_left _ _ h
+
+    closed_at : (d e : ℕ) → is_in d (list_in above e) ≡ true → is_in e (rest ++ a ∷ []) ≡ true
+        → (is_marked new d ≡ true) ⊎ (is_in e pending ≡ true)
+    closed_at d e there left = ⊎_elim
+        (λ before. inr (added e ∙ or_left _ _ before))
+        (λ last. ⊎_elim
+        (λ same. inl (now_on d (ap (λ n. is_in d (list_in above n)) (eqb-true a e same) ∙ there)))
+        (λ off. absurd (both_ways false refl off))
+        (or_cases (a == e) false last))
+        (or_cases (is_in e rest) _ (sym (is_in_push e a rest) ∙ left))
+
+    pub search_more : IsSearched above c new pending
+    search_more = record {
+      count = size ∙ s.count;
+      sound = λ d h. ⊎_elim
+          (λ before. s.sound d before)
+          (λ there. let steps = s.sound a was_marked in (a ∷ steps.0, (there, steps.1)))
+          (or_cases (is_marked marked d) _ (sym (marks d) ∙ h));
+      waiting = λ d h. ⊎_elim
+          (λ before. kept_on d (s.waiting d (still_in d before)))
+          (λ there. now_on d (and_parts (is_in d (list_in above a)) _ there).0)
+          (or_cases (is_in d rest) _ (sym (added d) ∙ h));
+      first = λ d h. kept_on d (s.first d h);
+      closed = λ d e h there. ⊎_elim
+          (λ before. ⊎_elim
+          (λ on. inl (kept_on d on))
+          (λ left. closed_at d e there left)
+          (s.closed d e before there))
+          (λ off. ⊎_elim
+          (λ on. absurd (both_ways _ off on))
+          (λ in_list. inr (added e ∙ or_right (is_in e rest) _ (and_from _ _ in_list (not_from_false _ off))))
+          (or_cases (is_marked marked e) _ (sym (marks e) ∙ h)))
+          (cases_Bool (is_marked marked e));
+    }
+
+-- ---- chains of cells
+
+-- a number that a filter keeps passes its test
+passes : (p : ℕ → Bool) (cs : List ℕ) (c : ℕ) → is_in c (filter p cs) ≡ true → p c ≡ true
+passes p [] c h = absurd (both_ways false refl h)
+passes p (d ∷ ds) c h = ⊎_elim
+    (λ on. ⊎_elim
+    (λ same. sym (ap p (eqb-true d c same)) ∙ on)
+    (λ later. passes p ds c later)
+    (or_cases (d == c) _ (sym (ap (λ b. is_in c (cond b (d ∷ filter p ds) (filter p ds))) on) ∙ h)))
+    (λ off. passes p ds c (sym (ap (λ b. is_in c (cond b (d ∷ filter p ds) (filter p ds))) off) ∙ h))
+    (cases_Bool (p d))
+
+-- a number that passes the test is kept
+is_kept : {X : Type 0} (p : ℕ → Bool) (n : ℕ) (xs : List X) (c : ℕ) → n ≤ c → c < n + length xs → p c ≡ true → is_in c (filter p (numbers_from n xs)) ≡ true
+is_kept p n [] c low high on = absurd (omega arith)
+is_kept p n (x ∷ xs) c low high on = ⊎_elim
+    (λ same.
+    ap (λ b. is_in c (cond b (n ∷ filter p (numbers_from (n + 1) xs)) (filter p (numbers_from (n + 1) xs)))) (ap p same ∙ on)
+    ∙ or_left _ _ (eq-eqb n c same))
+    (λ apart. later (p n) (is_kept p (n + 1) xs c (omega arith) (omega arith) on))
+    (cases_eq n c)
+  where
+    later : (b : Bool) → is_in c (filter p (numbers_from (n + 1) xs)) ≡ true
+        → is_in c (cond b (n ∷ filter p (numbers_from (n + 1) xs)) (filter p (numbers_from (n + 1) xs))) ≡ true
+    later true h = or_right (n == c) _ h
+    later false h = h
+
+-- an edge leads to a cell
+to_cell : (nb : List Cell) (a b : ℕ) → edge nb a b ≡ true → b < length nb
+to_cell nb a b h = ⊎_elim
+    (λ below. below)
+    (λ past.
+    let none : refs_of nb b ≡ [] = ap (names_at refs) (slice_get_past nb b past) in
+    let bad : edge nb a b ≡ false = ap (list_any (λ x. is_among x (defs_of nb a))) none in
+    absurd (both_ways _ bad h))
+    (cases_lt b (length nb))
+
+module _ (nb : List Cell) (above : List (List ℕ)) (kept : AreParents nb above) where
+  kept_at : (c : ℕ) → c < length above → list_in above c ≡ parents nb c
+  kept_at c lt = kept.each c (list_in above c) (slice_get-get_or above c [] lt)
+
+  -- the cells in the lists are those from which edges go
+  edge_from : (a b : ℕ) → is_in a (list_in above b) ≡ true → edge nb a b ≡ true
+  edge_from a b h = ⊎_elim
+      (λ below. passes (λ d. edge nb d b) (all_cells nb) a (sym (ap (is_in a) (kept_at b below)) ∙ h))
+      (λ past. absurd (both_ways false refl (sym (ap (is_in a) (past_all above b past)) ∙ h)))
+      (cases_lt b (length above))
+
+  in_list : (a b : ℕ) → edge nb a b ≡ true → is_in a (list_in above b) ≡ true
+  in_list a b h =
+      let low = from_cell nb a b h in
+      let high = to_cell nb a b h in
+      ap (is_in a) (kept_at b (omega (arith, kept.count))) ∙ is_kept (λ d. edge nb d b) 0 nb a (omega arith) (omega arith) h
+
+  chain_from : (a : ℕ) (between : List ℕ) (c : ℕ) → Leads above a between c → IsChain nb (a ∷ between ++ c ∷ [])
+  chain_from a [] c leads = (edge_from a c leads, tt)
+  chain_from a (b ∷ bs) c leads = (edge_from a b leads.0, chain_from b bs c leads.1)
+
+  leads_by : (a : ℕ) (between : List ℕ) (c : ℕ) → IsChain nb (a ∷ between ++ c ∷ []) → Leads above a between c
+  leads_by a [] c chain = in_list a c chain.0
+  leads_by a (b ∷ bs) c chain = (in_list a b chain.0, leads_by b bs c chain.1)
+
+  -- a cell that is marked as above itself lies on a cycle, and the other way round
+  pub lies : (c : ℕ) (marked : List Bool) (pending : List ℕ) → IsSearched above c marked pending → is_marked marked c ≡ true → LiesOnCycle nb c
+  lies c marked pending s on = let steps = s.sound c on in (steps.0, chain_from c steps.0 c steps.1)
+
+  pub lies_not : (c : ℕ) (marked : List Bool) → IsSearched above c marked [] → is_marked marked c ≡ false → LiesOnCycle nb c → ⊥
+  lies_not c marked s off cycle = both_ways _ off (complete above c marked s cycle.0 c (leads_by c cycle.0 c cycle.1))
+
+-- ---- the cells found so far
+
+-- those of the first n cells that lie on a cycle
+pub record AreFound (nb : List Cell) (above : List (List ℕ)) (n : ℕ) (cells : List ℕ) : Type 0 where
+  pub low : (c : ℕ) → is_in c cells ≡ true → c < n
+  pub each : (c : ℕ) → is_in c cells ≡ true → LiesOnCycle nb c
+  pub every : (c : ℕ) → c < n → LiesOnCycle nb c → is_in c cells ≡ true
+  pub rising : cells ≡ filter (λ c. is_in c cells) (numbers_from 0 (take n above))
+
+numbers_push : {X : Type 0} (n : ℕ) (xs : List X) (x : X) → numbers_from n (xs ++ x ∷ []) ≡ numbers_from n xs ++ (n + length xs) ∷ []
+numbers_push n [] x = let e : n ≡ n + 0 = omega arith in ap (λ k. k ∷ []) e
+numbers_push n (y ∷ ys) x =
+    let e : (n + 1) + length ys ≡ n + length (y ∷ ys) = omega arith in
+    ap (λ ks. n ∷ ks) (numbers_push (n + 1) ys x ∙ ap (λ k. numbers_from (n + 1) ys ++ k ∷ []) e)
+
+module _ (nb : List Cell) (above : List (List ℕ)) (n : ℕ) (lt : n < length above) (cells : List ℕ) (so_far : AreFound nb above n cells) where
+  long : length (take n above) ≡ n
+  long = length-take-le n above (omega arith)
+
+  numbers_more : numbers_from 0 (take (n + 1) above) ≡ numbers_from 0 (take n above) ++ n ∷ []
+  numbers_more =
+      let e : 0 + length (take n above) ≡ n = omega (arith, long) in
+      ap (λ (ls : List (List ℕ)). numbers_from 0 ls) (take_more above n [] lt) ∙ numbers_push 0 (take n above) (get_or above n [])
+      ∙ ap (λ k. numbers_from 0 (take n above) ++ k ∷ []) e
+
+  split : (p : ℕ → Bool) → filter p (numbers_from 0 (take (n + 1) above)) ≡ filter p (numbers_from 0 (take n above)) ++ filter p (n ∷ [])
+  split p = ap (filter p) numbers_more ∙ filter-append p (numbers_from 0 (take n above)) (n ∷ [])
+
+  itself : is_in n (cells ++ n ∷ []) ≡ true
+  itself = is_in_push n n cells ∙ or_right _ _ (or_left _ _ (eq-eqb n n refl))
+
+  in_longer : (c : ℕ) → is_in c (cells ++ n ∷ []) ≡ true → (is_in c cells ≡ true) ⊎ (n ≡ c)
+  in_longer c h = ⊎_elim
+      (λ before. inl before)
+      (λ last. ⊎_elim (λ same. inr (eqb-true n c same)) (λ off. absurd (both_ways false refl off)) (or_cases (n == c) false last))
+      (or_cases (is_in c cells) _ (sym (is_in_push c n cells) ∙ h))
+
+  lower : (d : ℕ) → 0 ≤ d → d < 0 + length (take n above) → is_in d (cells ++ n ∷ []) ≡ is_in d cells
+  lower d low high =
+      is_in_push d n cells ∙ ap (λ b. is_in d cells || (b || false)) (ne_eqb n d (λ e. omega (arith, e, long, high))) ∙ or_false (is_in d cells)
+
+  -- the next cell lies on one too
+  pub found_more : LiesOnCycle nb n → AreFound nb above (n + 1) (cells ++ n ∷ [])
+  found_more cycle = record {
+    low = λ c h. ⊎_elim (λ before. let b = so_far.low c before in omega arith) (λ same. omega arith) (in_longer c h);
+    each = λ c h. ⊎_elim (λ before. so_far.each c before) (λ same. subst (LiesOnCycle nb) same cycle) (in_longer c h);
+    every = λ c below on. ⊎_elim
+        (λ same. ap (λ d. is_in d (cells ++ n ∷ [])) (sym same) ∙ itself)
+        (λ apart. is_in_push c n cells ∙ or_left _ _ (so_far.every c (omega arith) on))
+        (cases_eq n c);
+    rising =
+        ap (λ ks. ks ++ n ∷ []) (so_far.rising ∙ sym (filter_within (λ c. is_in c (cells ++ n ∷ [])) (λ c. is_in c cells) 0 (take n above) lower))
+        ∙ ap (λ b. filter (λ c. is_in c (cells ++ n ∷ [])) (numbers_from 0 (take n above)) ++ cond b (n ∷ []) []) (sym itself)
+        ∙ sym (split (λ c. is_in c (cells ++ n ∷ [])));
+  }
+
+  -- the next cell lies on none
+  pub found_same : (LiesOnCycle nb n → ⊥) → AreFound nb above (n + 1) cells
+  found_same free = record {
+    low = λ c h. let b = so_far.low c h in omega arith;
+    each = so_far.each;
+    every = λ c below on. ⊎_elim
+        (λ same. absurd (free (subst (LiesOnCycle nb) (sym same) on)))
+        (λ apart. so_far.every c (omega arith) on)
+        (cases_eq n c);
+    rising =
+        let off : is_in n cells ≡ false = false_from_ne_true _ (λ on. let b = so_far.low n on in omega arith) in
+        so_far.rising ∙ sym (append-nil (filter (λ c. is_in c cells) (numbers_from 0 (take n above))))
+        ∙ ap (λ b. filter (λ c. is_in c cells) (numbers_from 0 (take n above)) ++ cond b (n ∷ []) []) (sym off)
+        ∙ sym (split (λ c. is_in c cells));
+  }
+
+pub all_found : (nb : List Cell) (above : List (List ℕ)) (n : ℕ) (cells : List ℕ) → AreParents nb above → length above ≤ n
+    → AreFound nb above n cells → AreCyclic nb cells
+all_found nb above n cells kept past found = record {
+  each = found.each;
+  every = λ c cycle. found.every c (let below = on_cycle_below nb c cycle in omega (arith, kept.count, below)) cycle;
+  rising = found.rising
+      ∙ ap (filter (λ c. is_in c cells)) (ap (λ (ls : List (List ℕ)). numbers_from 0 ls) (take_all n above past) ∙ numbers_alike 0 above nb kept.count);
+}
