@@ -76,7 +76,7 @@ pub record IsLast (place : At) (done whole : Stmts) (rest : List ℕ) : Type 0 w
   pub parts : whole ≡ done
   pub left : place.bytes ≡ rest
 
-empty_block : (b : Stmts) → IsTrue (is_empty b) → b ≡ end
+pub empty_block : (b : Stmts) → IsTrue (is_empty b) → b ≡ end
 empty_block end e = refl
 empty_block (then_comes s b) e = absurd (false≢true e)
 

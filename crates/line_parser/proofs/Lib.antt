@@ -1,9 +1,13 @@
+pub mod Beginnings
 pub mod Bodies
 pub mod Breaks
 pub mod Cuts
 pub mod Numerals
+pub mod OneRefusal
+pub mod OneToOne
 pub mod Places
 pub mod Spellings
+pub mod Stops
 pub mod SumFound
 pub mod SumOnly
 pub mod SumSteps

@@ -108,7 +108,7 @@ are-second n (c ∷ a) b p =
     let e : n + length (flat_map cell_lines (c ∷ a)) ≡ n + 2 + line_count c.body + length (flat_map cell_lines a) = omega (arith, cell_length c a) in
     rw e (are-second (n + 2 + line_count c.body) a b (and_parts _ _ p).1)
 
-bodies-cons : (c : Cell) (cs : List Cell) → bodies (c ∷ cs) ≡ line_count c.body + bodies cs
+pub bodies-cons : (c : Cell) (cs : List Cell) → bodies (c ∷ cs) ≡ line_count c.body + bodies cs
 bodies-cons c cs = rw zero-add at (sum_by-append (λ (d : Cell). line_count d.body) (c ∷ []) cs)
 
 by_more : (place : At) (done more whole : List Cell) (rest : List ℕ) → whole ≡ done ++ more → place.bytes ≡ text_of (flat_map cell_lines more) ++ rest → IsTrue (are_cells place.line more) → bodies more ≤ place.room → (BeginsWith 32 rest → ⊥) → IsNext place done whole rest ⊎ IsLast place done whole rest

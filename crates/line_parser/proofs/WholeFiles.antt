@@ -1,21 +1,25 @@
 -- A file of the thin form that is read.
-use Rattle.std.proofs.Common.{◌≡◌, ℕ, ◌≤◌, IsTrue, List, [], ◌∷◌, ◌++◌, length, refl, sym, ◌∙◌, append-nil, arith}
+use Rattle.std.proofs.Common.{◌≡◌, ℕ, ◌≤◌, IsTrue, List, [], ◌∷◌, ◌++◌, length, refl, sym, ◌∙◌, append-nil, arith, subst}
 use Rattle.std.specs.Prelude.{codes, flat_map}
 use Rattle.std.proofs.lemmas.Bool.{and_parts, and_from, leb-true, le-leb}
 use Rattle.std.proofs.lemmas.List.{append_cancel_left}
 use Rattle.line_parser.specs.FileReading.{At, BeginsWith, HasCells, IsPast}
+use Rattle.line_parser.specs.Places.{First, IsStuck, StopsAt}
 use Rattle.line_parser.specs.Refused.{IsCauseOf}
 use Rattle.line_parser.specs.declared.thin_file.ThinFault.{ThinFault}
 use Rattle.line_parser.specs.declared.thin_file.ThinFault.TheVariants.{Thin, Memory}
+use Rattle.line_parser.proofs.Beginnings.{stuck_fails}
 use Rattle.line_parser.proofs.Places.{past_on, text-append}
 use Rattle.line_parser.proofs.WholeCells.{bodies}
 use Rattle.notebook_meaning.specs.Thin.{IsForm, are_cells, cell_lines, header, footer, file_lines, text_of}
 use Rattle.py_tree.specs.Trees.{Cell}
 
--- no cells have the bytes, or memory was wanting
-pub cause : (e : ThinFault) (bytes : List ℕ) → ((nb : List Cell) → IsForm bytes nb → e ≡ Memory) → IsCauseOf e bytes
-cause (Thin line) bytes h = λ nb form. let e = h nb form in cc
-cause Memory bytes h = tt
+-- the bytes fail where reading stops, or memory was wanting
+pub cause : (e : ThinFault) (a : At) (bytes : List ℕ) → a ≡ record { bytes = bytes; line = 1; room = 1000 } → length bytes ≤ 1048576 → ((nb : List Cell) → IsForm bytes nb → e ≡ Memory) → StopsAt a First e → IsCauseOf e bytes
+cause (Thin line) a bytes same size h stop =
+    let P : At → Type 0 = λ (start : At). IsStuck start First line in
+    stuck_fails bytes line size (λ nb form. let e = h nb form in cc) (subst P same stop)
+cause Memory a bytes same size h stop = tt
 
 pub form : (a b c d e f : At) (nb : List Cell) → a.line ≡ 1 → a.room ≡ 1000 → length a.bytes ≤ 1048576 → IsPast a b (codes "import marimo" ∷ []) 0 → IsPast b c (codes "app = marimo.App()" ∷ []) 0 → HasCells c d nb → IsPast d e (codes "if __name__ == \"__main__\":" ∷ []) 0 → IsPast e f (codes "    app.run()" ∷ []) 0 → f.bytes ≡ [] → IsForm a.bytes nb
 form a b c d e f nb first room short p q cells r s ends =

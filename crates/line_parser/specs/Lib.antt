@@ -1,4 +1,5 @@
 pub mod FileReading
+pub mod Places
 pub mod Plain
 pub mod Refused
 pub mod Sums

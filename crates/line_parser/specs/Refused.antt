@@ -2,10 +2,9 @@
 use Rattle.std.specs.Prelude.{ℕ, List}
 use Rattle.line_parser.specs.declared.thin_file.ThinFault.{ThinFault}
 use Rattle.line_parser.specs.declared.thin_file.ThinFault.TheVariants.{Thin, Memory}
-use Rattle.notebook_meaning.specs.Thin.{IsForm}
-use Rattle.py_tree.specs.Trees.{Cell}
+use Rattle.notebook_meaning.specs.Fails.{FailsAt}
 
--- The bytes are the file of no cells. Want of memory has no cause here.
+-- Where the bytes fail. Want of memory has no cause here.
 abbrev pub IsCauseOf : ThinFault → List ℕ → Type 0
-IsCauseOf (Thin line) bytes = (nb : List Cell) → IsForm bytes nb → ⊥
+IsCauseOf (Thin line) bytes = FailsAt bytes line
 IsCauseOf Memory bytes = Unit {0}

@@ -1,6 +1,8 @@
 // What is left of a file of the thin form.
 ghost use Rattle.std.specs.Prelude.{◌≡◌, ℕ, ◌+◌, ◌≤◌, ◌==◌, IsTrue, MatchBool, List, [], ◌∷◌, ◌++◌, length, position, codes, Ok, None, MatchOption, IfErr, IfOk, OnErr, OnOk};
+ghost use Rattle.std.specs.Option.{IfNone};
 ghost use Rattle.line_parser.specs.FileReading.{BeginsWith, HasBody, IsPast, ReadsLine, is_unbroken};
+ghost use Rattle.line_parser.specs.Places.{AfterBody, Body, IsBody, IsNoNext, StopsAt};
 ghost use Rattle.notebook_meaning.specs.Thin.{text_of};
 ghost use Rattle.py_tree.specs.Trees.{end, then_comes};
 ghost use Rattle.py_tree.specs.View.{view_stmt};
@@ -97,6 +99,8 @@ impl<'a> Reader<'a> {
         ensures found { IfOk result (λ o. MatchOption o (self.new ≡ self.old) (λ s. HasBody self.old self.new (then_comes (view_stmt s) end))) }
         ensures only { ReadsLine self.old self.new result }
         ensures ends { (BeginsWith 32 self.old.bytes → ⊥) → result ≡ Ok None }
+        ensures none { IfOk result (λ o. IfNone o (IsNoNext IsBody self.old.bytes)) }
+        ensures stuck { IfErr result (λ e. StopsAt self.old Body e × StopsAt self.old AfterBody e) }
     {
         let Some((text, rest)) = indented(self.bytes) else {
             return Ok(None);

@@ -1,7 +1,8 @@
 -- What was written at each status.
-use Rattle.std.proofs.Common.{◌≡◌, ◌∙◌, refl, sym, ap, subst, inl, inr, ◌⊎◌, ℕ, ◌≤◌, List, [], lit≤, arith}
+use Rattle.std.proofs.Common.{◌≡◌, ◌∙◌, refl, sym, ap, subst, inl, inr, ◌⊎◌, ⊎_elim, ℕ, ◌≤◌, List, [], lit≤, arith}
 use Rattle.std.specs.Prelude.{Option, Some, None, IfSome}
 use Rattle.link_io.specs.Outside.{Took}
+use Rattle.line_parser.proofs.OneRefusal.{none_refused}
 use Rattle.link_io.proofs.Taken.{took_none}
 use Rattle.notebook_meaning.specs.Once as once
 use Rattle.notebook_meaning.specs.Once.{Comes, Begins, Once, command_of, AreRead, IsAccepted, IsRefused, Refusal, FailsFirst, read_of, once_text, refusal_text}
@@ -30,13 +31,13 @@ refused_wrote holds unread unwritten words why result before now comes (wrote.no
 pub comes_opened : (holds : List ℕ → Option (Option (List ℕ))) (unread : Type 0) (words : List (List ℕ)) (file bytes text : List ℕ) → command_of words ≡ Some (Once file) → AreRead holds file bytes → IsOpening bytes text → Comes holds unread words 0 text
 comes_opened holds unread words file bytes text asked read opening = once.opened file bytes opening.0 asked read opening.1 refl opening.2
 
-pub comes_refused : (holds : List ℕ → Option (Option (List ℕ))) (unread : Type 0) (words : List (List ℕ)) (file bytes : List ℕ) (why : Refusal) → command_of words ≡ Some (Once file) → AreRead holds file bytes → IsRefused bytes × FailsFirst bytes why → Comes holds unread words 1 (refusal_text why)
-comes_refused holds unread words file bytes why asked read cause = once.refused file bytes why asked read cause.0 cause.1 refl refl
+pub comes_refused : (holds : List ℕ → Option (Option (List ℕ))) (unread : Type 0) (words : List (List ℕ)) (file bytes : List ℕ) (why : Refusal) → command_of words ≡ Some (Once file) → AreRead holds file bytes → FailsFirst bytes why → Comes holds unread words 1 (refusal_text why)
+comes_refused holds unread words file bytes why asked read cause = once.refused file bytes why asked read cause refl refl
 
 -- the statuses
 comes_range : (holds : List ℕ → Option (Option (List ℕ))) (unread : Type 0) (words : List (List ℕ)) (status : ℕ) (text : List ℕ) → Comes holds unread words status text → status ≤ 3
 comes_range holds unread words status text (once.opened file bytes nb a r acc e t) = subst (λ n. n ≤ 3) (sym e) (lit≤ tt)
-comes_range holds unread words status text (once.refused file bytes why a r none f e t) = subst (λ n. n ≤ 3) (sym e) (lit≤ tt)
+comes_range holds unread words status text (once.refused file bytes why a r first e t) = subst (λ n. n ≤ 3) (sym e) (lit≤ tt)
 comes_range holds unread words status text (once.usage a e t) = subst (λ n. n ≤ 3) (sym e) (lit≤ tt)
 comes_range holds unread words status text (once.unread file a f e t) = subst (λ n. n ≤ 3) (sym e) (lit≤ tt)
 
@@ -65,7 +66,7 @@ module _ (holds : List ℕ → Option (Option (List ℕ))) (unread unwritten : T
   -- a read fault has its cause
   pub wrote_read : Wrote holds unread unwritten words status before now → status ≡ 3 → unread
   wrote_read (wrote.whole text (once.opened file bytes nb a r acc e t) took) h = absurd (omega (arith, e, h))
-  wrote_read (wrote.whole text (once.refused file bytes why a r none f e t) took) h = absurd (omega (arith, e, h))
+  wrote_read (wrote.whole text (once.refused file bytes why a r first e t) took) h = absurd (omega (arith, e, h))
   wrote_read (wrote.whole text (once.usage a e t) took) h = absurd (omega (arith, e, h))
   wrote_read (wrote.whole text (once.unread file a f e t) took) h = f
   wrote_read (wrote.cut text e why begins took) h = absurd (omega (arith, e, h))
@@ -80,7 +81,7 @@ module _ (holds : List ℕ → Option (Option (List ℕ))) (unread unwritten : T
   -- words that are no form
   pub wrote_usage : Wrote holds unread unwritten words status before now → command_of words ≡ None → (status ≡ 2) ⊎ (status ≡ 4) ⊎ (status ≡ 5)
   wrote_usage (wrote.whole text (once.opened file bytes nb a r acc e t) took) h = let no : None ≡ Some (Once file) = sym h ∙ a in absurd cc
-  wrote_usage (wrote.whole text (once.refused file bytes why a r none f e t) took) h = let none : None ≡ Some (Once file) = sym h ∙ a in absurd cc
+  wrote_usage (wrote.whole text (once.refused file bytes why a r first e t) took) h = let none : None ≡ Some (Once file) = sym h ∙ a in absurd cc
   wrote_usage (wrote.whole text (once.usage a e t) took) h = inl e
   wrote_usage (wrote.whole text (once.unread file a f e t) took) h = let no : None ≡ Some (Once file) = sym h ∙ a in absurd cc
   wrote_usage (wrote.cut text e why begins took) h = inr (inl e)
@@ -89,9 +90,29 @@ module _ (holds : List ℕ → Option (Option (List ℕ))) (unread unwritten : T
   -- accepted bytes, where the files tell them
   pub wrote_accepted : Wrote holds unread unwritten words status before now → (file all : List ℕ) (nb : List Cell) → command_of words ≡ Some (Once file) → holds file ≡ Some (Some all) → IsAccepted (read_of all) nb → (status ≡ 0) ⊎ (status ≡ 3) ⊎ (status ≡ 4) ⊎ (status ≡ 5)
   wrote_accepted (wrote.whole text (once.opened f bytes n a r acc e t) took) file all nb asked told ok = inl e
-  wrote_accepted (wrote.whole text (once.refused f bytes why a r none first e t) took) file all nb asked told ok =
-      absurd (none nb (subst (λ bs. IsAccepted bs nb) (sym (read_is_of holds words f file bytes all a asked told r)) ok))
+  wrote_accepted (wrote.whole text (once.refused f bytes why a r first e t) took) file all nb asked told ok =
+      absurd (none_refused bytes nb why (subst (λ bs. IsAccepted bs nb) (sym (read_is_of holds words f file bytes all a asked told r)) ok) first)
   wrote_accepted (wrote.whole text (once.usage a e t) took) file all nb asked told ok = let no : None ≡ Some (Once file) = sym a ∙ asked in absurd cc
   wrote_accepted (wrote.whole text (once.unread f a why e t) took) file all nb asked told ok = inr (inl e)
   wrote_accepted (wrote.cut text e why begins took) file all nb asked told ok = inr (inr (inl e))
   wrote_accepted (wrote.unfinished text e begins took) file all nb asked told ok = inr (inr (inr e))
+
+  -- refused bytes, where the files tell them
+  pub wrote_refused : Wrote holds unread unwritten words status before now → (file all : List ℕ) → command_of words ≡ Some (Once file) → holds file ≡ Some (Some all) → IsRefused (read_of all) → (status ≡ 1) ⊎ (status ≡ 3) ⊎ (status ≡ 4) ⊎ (status ≡ 5)
+  wrote_refused (wrote.whole text (once.opened f bytes nb a r acc e t) took) file all asked told never =
+      absurd (never nb (subst (λ bs. IsAccepted bs nb) (read_is_of holds words f file bytes all a asked told r) acc))
+  wrote_refused (wrote.whole text (once.refused f bytes why a r first e t) took) file all asked told never = inl e
+  wrote_refused (wrote.whole text (once.usage a e t) took) file all asked told never = let bad : None ≡ Some (Once file) = sym a ∙ asked in absurd cc
+  wrote_refused (wrote.whole text (once.unread f a why e t) took) file all asked told never = inr (inl e)
+  wrote_refused (wrote.cut text e why begins took) file all asked told never = inr (inr (inl e))
+  wrote_refused (wrote.unfinished text e begins took) file all asked told never = inr (inr (inr e))
+
+  -- accepted bytes, where no fault came
+  pub wrote_complete : Wrote holds unread unwritten words status before now → (file all : List ℕ) (nb : List Cell) → command_of words ≡ Some (Once file) → holds file ≡ Some (Some all) → IsAccepted (read_of all) nb → (unread → ⊥) → (unwritten → ⊥) → (status ≡ 0) ⊎ (status ≡ 5)
+  wrote_complete w file all nb asked told ok read write = ⊎_elim
+      (λ done. inl done)
+      (λ more. ⊎_elim
+      (λ fault. absurd (read (wrote_read w fault)))
+      (λ rest. ⊎_elim (λ fault. absurd (write (wrote_write w fault))) (λ memory. inr memory) rest)
+      more)
+      (wrote_accepted w file all nb asked told ok)

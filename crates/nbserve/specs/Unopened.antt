@@ -4,7 +4,7 @@ use Rattle.cell_graph.specs.declared.fault.GraphFault.{GraphFault}
 use Rattle.cell_graph.specs.declared.fault.GraphFault.TheVariants as graph
 use Rattle.line_parser.specs.declared.thin_file.ThinFault.{ThinFault}
 use Rattle.line_parser.specs.declared.thin_file.ThinFault.TheVariants as form
-use Rattle.notebook_meaning.specs.Once.{IsAccepted, IsRefused, FailsFirst, once_text}
+use Rattle.notebook_meaning.specs.Once.{IsAccepted, FailsFirst, once_text}
 use Rattle.py_tree.specs.Trees.{Cell}
 use Rattle.nbserve.specs.declared.opening.Unopened.{Unopened}
 use Rattle.nbserve.specs.declared.opening.Unopened.TheVariants as why
@@ -25,7 +25,7 @@ of_graph graph.Memory = why.Memory
 abbrev pub IsOpening : List ℕ → List ℕ → Type 0
 IsOpening bytes text = (nb : List Cell) × IsAccepted bytes nb × (text ≡ once_text nb)
 
--- The bytes are refused, for the first test that they fail. Want of memory has no cause here.
+-- The first test that the bytes fail. Want of memory has no cause here.
 abbrev pub IsWhy : Unopened → List ℕ → Type 0
-IsWhy (why.Refused r) bytes = IsRefused bytes × FailsFirst bytes (refusal_of r)
+IsWhy (why.Refused r) bytes = FailsFirst bytes (refusal_of r)
 IsWhy why.Memory bytes = Unit {0}

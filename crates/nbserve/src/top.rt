@@ -3,7 +3,7 @@ ghost use Rattle.std.specs.Prelude.{◌≡◌, ◌⊎◌, ℕ, ◌≤◌, List, 
 ghost use Rattle.link_io.specs.Outside.{Rose};
 ghost use Rattle.nbserve.specs.Refused.{refusal_of};
 ghost use Rattle.nbserve.specs.Wrote.{Wrote, Ended, Refuses};
-ghost use Rattle.notebook_meaning.specs.Once.{Once, command_of, IsAccepted, read_of};
+ghost use Rattle.notebook_meaning.specs.Once.{Once, command_of, IsAccepted, IsRefused, read_of};
 ghost use Rattle.py_tree.specs.Trees.{Cell};
 
 use crate::opening::{Unopened, opening_text};
@@ -102,6 +102,17 @@ pub fn run_words<F: Files, O: Sink, L: Ledger>(
     ensures accepted { (file all : List ℕ) (nb : List Cell) → command_of (map string_bytes words.now) ≡ Some (Once file)
         → F.holds files.old file ≡ Some (Some all) → IsAccepted (read_of all) nb
         → (result ≡ 0) ⊎ (result ≡ 3) ⊎ (result ≡ 4) ⊎ (result ≡ 5) }
+
+    // A notebook that isn't accepted is refused, unless a fault comes or memory is wanting.
+    ensures refused { (file all : List ℕ) → command_of (map string_bytes words.now) ≡ Some (Once file)
+        → F.holds files.old file ≡ Some (Some all) → IsRefused (read_of all)
+        → (result ≡ 1) ⊎ (result ≡ 3) ⊎ (result ≡ 4) ⊎ (result ≡ 5) }
+
+    // Where no count of faults rises, an accepted notebook is opened, or memory is wanting.
+    ensures complete { (file all : List ℕ) (nb : List Cell) → command_of (map string_bytes words.now) ≡ Some (Once file)
+        → F.holds files.old file ≡ Some (Some all) → IsAccepted (read_of all) nb
+        → (Rose (F.faults files.old) (F.faults files.new) → ⊥) → (Rose (O.faults out.old) (O.faults out.new) → ⊥)
+        → (result ≡ 0) ⊎ (result ≡ 5) }
 {
     match once_file(words) {
         Some(file) => run_once(alloc, file, files, out, steps),

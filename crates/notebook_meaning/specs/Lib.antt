@@ -1,4 +1,5 @@
 pub mod Answer
+pub mod Fails
 pub mod FrameText
 pub mod Graph
 pub mod Meaning

@@ -4,6 +4,7 @@ use Rattle.std.specs.Str.{bytes_eq}
 use Rattle.py_tree.specs.Names.{Name}
 use Rattle.py_tree.specs.Trees.{Cell}
 use Rattle.notebook_meaning.specs.Graph.{IsDoubled, NoneDoubled, AreCyclic, NoneCyclic}
+use Rattle.notebook_meaning.specs.Fails.{FailsAt}
 use Rattle.notebook_meaning.specs.Thin.{IsForm, byte_limit}
 use Rattle.notebook_meaning.specs.Answer.{Open, solo}
 use Rattle.notebook_meaning.specs.FrameText.{frame_lines}
@@ -18,20 +19,15 @@ pub record IsAccepted (bytes : List ℕ) (nb : List Cell) : Type 0 where
 abbrev pub IsRefused : List ℕ → Type 0
 IsRefused bytes = (nb : List Cell) → IsAccepted bytes nb → ⊥
 
--- no notebook's file are these bytes
-abbrev pub IsFormless : List ℕ → Type 0
-IsFormless bytes = (nb : List Cell) → IsForm bytes nb → ⊥
-
 -- why bytes are refused
 pub data Refusal : Type 0 where
   Thin : (line : ℕ) → Refusal
   Doubly : (x : Name) → (first second : ℕ) → Refusal
   Cycle : (cells : List ℕ) → Refusal
 
--- The first test that bytes fail: they have the form, no name is defined again, no cell lies on a cycle. Of the line of bytes
--- that have not the form nothing is said.
+-- The first test that bytes fail: they have the form, no name is defined again, no cell lies on a cycle.
 abbrev pub FailsFirst : List ℕ → Refusal → Type 0
-FailsFirst bytes (Thin line) = IsFormless bytes
+FailsFirst bytes (Thin line) = FailsAt bytes line
 FailsFirst bytes (Doubly x first second) = (nb : List Cell) × IsForm bytes nb × IsDoubled nb x first second
 FailsFirst bytes (Cycle cells) = (nb : List Cell) × IsForm bytes nb × NoneDoubled nb × AreCyclic nb cells × (0 < length cells)
 
@@ -81,7 +77,7 @@ pub data Comes (holds : List ℕ → Option (Option (List ℕ))) (failed : Type 
       → IsAccepted bytes nb → status ≡ 0 → text ≡ once_text nb → Comes holds failed words status text
   -- 1: the bytes are refused, for the first test that they fail
   refused : (file bytes : List ℕ) (why : Refusal) → command_of words ≡ Some (Once file) → AreRead holds file bytes
-      → IsRefused bytes → FailsFirst bytes why → status ≡ 1 → text ≡ refusal_text why → Comes holds failed words status text
+      → FailsFirst bytes why → status ≡ 1 → text ≡ refusal_text why → Comes holds failed words status text
   -- 2: the words are no form
   usage : command_of words ≡ None → status ≡ 2 → text ≡ codes "usage\n" → Comes holds failed words status text
   -- 3: the file couldn't be read

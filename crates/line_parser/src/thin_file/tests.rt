@@ -10,13 +10,14 @@ fn outcome(alloc: Global, bytes: &[u8]) -> Result<(), ThinFault> {
     Ok(())
 }
 
-// A file of one cell with so many body lines.
-fn long_file(alloc: Global, lines: u32) -> Result<Vec<u8>, AllocError> {
+// A file of one cell with so many body lines, and these lines after it.
+fn long_file(alloc: Global, lines: u32, more: &[u8]) -> Result<Vec<u8>, AllocError> {
     let mut bytes = Vec::new(alloc);
     bytes.extend_from_slice(b"import marimo\napp = marimo.App()\n@app.cell\ndef _():\n")?;
     for _ in 0..lines {
         bytes.extend_from_slice(b"    x\n")?;
     }
+    bytes.extend_from_slice(more)?;
     bytes.extend_from_slice(b"if __name__ == \"__main__\":\n    app.run()\n")?;
     Ok(bytes)
 }
@@ -45,7 +46,7 @@ fn reads_no_cells(rt: HostRuntime) {
 
 #[test]
 fn refuses_the_first_line_that_does_not_fit(rt: HostRuntime) {
-    let files: [(&[u8], u32); 16] = [
+    let files: [(&[u8], u32); 19] = [
         (b"", 1),
         (b"import marimo\r\napp = marimo.App()\r\n", 1),
         (b"app = marimo.App()\n", 1),
@@ -66,6 +67,18 @@ fn refuses_the_first_line_that_does_not_fit(rt: HostRuntime) {
         ),
         (
             b"import marimo\napp = marimo.App()\n@app.cell\ndef _():\n    x\r\n",
+            5,
+        ),
+        (
+            b"import marimo\napp = marimo.App()\n@app.cell\ndef _():\n    x\n    if = 1\n",
+            6,
+        ),
+        (
+            b"import marimo\napp = marimo.App()\n@app.cell\ndef _():\n    x = 170141183460469231731687303715884105728\n",
+            5,
+        ),
+        (
+            b"import marimo\napp = marimo.App()\n@app.cell\ndef _():\n    1 + 1 + 1 + 1 + 1 + 1 + 1 + 1 + 1 + 1 + 1 + 1 + 1 + 1 + 1 + 1 + 1 + 1 + 1 + 1 + 1 + 1 + 1 + 1 + 1 + 1 + 1 + 1 + 1 + 1 + 1 + 1 + 1\n",
             5,
         ),
         (
@@ -104,12 +117,17 @@ fn refuses_the_first_line_that_does_not_fit(rt: HostRuntime) {
 
 #[test]
 fn refuses_more_body_lines_than_a_thousand(rt: HostRuntime) -> Result<(), Fail> {
-    let fits = long_file(rt.alloc(), 1000)?;
+    let fits = long_file(rt.alloc(), 1000, b"")?;
     assert_eq!(rt; outcome(rt.alloc(), &fits), Ok(()));
-    let longer = long_file(rt.alloc(), 1001)?;
+    let longer = long_file(rt.alloc(), 1001, b"")?;
     assert_eq!(rt;
         outcome(rt.alloc(), &longer),
         Err(ThinFault::Thin { line: 1005 })
+    );
+    let cell_more = long_file(rt.alloc(), 1000, b"@app.cell\ndef _():\n    x\n")?;
+    assert_eq!(rt;
+        outcome(rt.alloc(), &cell_more),
+        Err(ThinFault::Thin { line: 1007 })
     );
     Ok(())
 }

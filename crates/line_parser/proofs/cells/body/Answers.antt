@@ -3,8 +3,10 @@ use Rattle.std.proofs.Common.{◌≡◌, ◌<◌, List, [], ◌∷◌, ◌++◌,
 use Rattle.std.proofs.lemmas.Bool.{eqb-true, eqb-false, false≢true}
 use Rattle.std.proofs.lemmas.Result.{err_from_is_err_and}
 use Rattle.line_parser.specs.FileReading.{At}
+use Rattle.line_parser.specs.Places.{IsBody, IsNoNext}
+use Rattle.line_parser.specs.declared.thin_file.ThinFault.TheVariants.{Thin, Memory}
+use Rattle.line_parser.proofs.Stops.{stops_body, stops_empty}
 use Rattle.line_parser.proofs.Bodies.{has_more, goes_on, last, next, view-push, joined}
-use Rattle.line_parser.specs.declared.thin_file.ThinFault.TheVariants.{Memory}
 use Rattle.notebook_meaning.specs.Thin.{is_empty, body_lines, text_of}
 use Rattle.py_tree.specs.Trees.{end, then_comes}
 use Rattle.py_tree.specs.View.{view_stmt, view_stmts}
@@ -67,3 +69,23 @@ returns-clause-only c body rest fits some room e u =
     let only = rw c.in_default.is at c.in_ok-stmt.ensures.only in
     let ended = last c.args.reader.now c.loop-stmts.reader (view_stmts c.loop-stmts.stmts.items) body rest inv.found (λ head after f r l. (only head after f r l).0) fits room (inv.continues body rest fits room e u) in
     (sym ended.parts, ap (λ (a : At). a.bytes) same ∙ ended.left)
+
+pub returns-in_err-stmt-clause-stuck : goal.returns-in_err-stmt-clause-stuck
+returns-in_err-stmt-clause-stuck c =
+    let p = err_from_is_err_and c.from_residual.result c.from_residual.ensures.1 in
+    rw (p.1, p.2) (stops_body c.args.reader.now c.loop-stmts.reader (view_stmts c.loop-stmts.stmts.items) c.in_err-stmt.field-0.0 c.loop-stmts.invariant.found c.in_err-stmt.ensures.stuck)
+
+pub returns-then-is_empty-clause-stuck : goal.returns-then-is_empty-clause-stuck
+returns-then-is_empty-clause-stuck c =
+    let size : vec_len c.loop-stmts.stmts ≡ 0 = eqb-true _ _ (sym c.if-is_empty.ensures) in
+    let empty : view_stmts c.loop-stmts.stmts.items ≡ end = no_lines _ (omega (arith, c.loop-stmts.stmts.ok.0)) in
+    let same : c.stmt.new.self ≡ c.loop-stmts.reader = rw c.in_default.is at c.in_ok-stmt.ensures.found in
+    let none : IsNoNext IsBody c.loop-stmts.reader.bytes = rw c.in_default.is at c.in_ok-stmt.ensures.none in
+    let line = ap (λ (a : At). Thin a.line) same in
+    stops_empty c.args.reader.now c.loop-stmts.reader (view_stmts c.loop-stmts.stmts.items) c.fault.result c.loop-stmts.invariant.found empty (c.fault.ensures ∙ line) none
+
+pub returns-clause-none : goal.returns-clause-none
+returns-clause-none c =
+    let same : c.stmt.new.self ≡ c.loop-stmts.reader = rw c.in_default.is at c.in_ok-stmt.ensures.found in
+    let none : IsNoNext IsBody c.loop-stmts.reader.bytes = rw c.in_default.is at c.in_ok-stmt.ensures.none in
+    rw same none

@@ -1,6 +1,9 @@
 -- The decorator, the `def` line and the body are read in turn.
 use Rattle.std.proofs.Common.{◌++◌, ◌∙◌}
+use Rattle.std.specs.Prelude.{codes}
 use Rattle.std.proofs.lemmas.Result.{err_from_is_err_and}
+use Rattle.line_parser.specs.Places.{Definition}
+use Rattle.line_parser.proofs.Stops.{stops_definition, stops_expect, stops_in_cell}
 use Rattle.line_parser.proofs.WholeCells.{at_body, behind_decorator, is_read, same_cell}
 use Rattle.notebook_meaning.specs.Thin.{body_lines, text_of}
 use Rattle.line_parser.proofs.cells.cell.Goals as goal
@@ -27,3 +30,17 @@ returns-clause-only c cell rest fits room e u =
     let w = at_body c.args.reader.now c.skip.new.self c.expect.new.self cell rest c.if-not-skip.ensures c.in_ok-expect.ensures.found fits room e in
     let o = c.in_ok-body.ensures.only cell.body rest w.fits w.some w.room w.bytes u in
     (same_cell _ _ c.args.reader.now cell c.line-line.ensures (c.of.ensures.view ∙ o.0) fits, o.1)
+
+pub returns-then-not-skip-clause-none : goal.returns-then-not-skip-clause-none
+returns-then-not-skip-clause-none c = λ next after e line. c.if-not-skip.ensures.1 after (rw line at e)
+
+pub returns-in_err-expect-clause-stuck : goal.returns-in_err-expect-clause-stuck
+returns-in_err-expect-clause-stuck c =
+    let p = err_from_is_err_and c.from_residual.result c.from_residual.ensures.1 in
+    let here = stops_expect c.skip.new.self Definition (codes "def _():") c.in_err-expect.field-0.0 c.in_err-expect.ensures.line c.in_err-expect.ensures.refused (λ next line. line) in
+    rw (p.1, p.2) (stops_definition c.args.reader.now c.skip.new.self c.in_err-expect.field-0.0 c.if-not-skip.ensures here)
+
+pub returns-in_err-body-clause-stuck : goal.returns-in_err-body-clause-stuck
+returns-in_err-body-clause-stuck c =
+    let p = err_from_is_err_and c.from_residual-in_err-body.result c.from_residual-in_err-body.ensures.1 in
+    rw (p.1, p.2) (stops_in_cell c.args.reader.now c.skip.new.self c.expect.new.self c.in_err-body.field-0.0 c.if-not-skip.ensures c.in_ok-expect.ensures.found c.in_err-body.ensures.stuck)

@@ -1,10 +1,12 @@
 -- Each cell is read in turn.
 use Rattle.std.proofs.Common.{◌≡◌, [], ◌∷◌, ◌++◌, inl, inr, sym, ap, ◌∙◌}
-use Rattle.std.specs.Prelude.{flat_map}
+use Rattle.std.specs.Prelude.{codes, flat_map}
 use Rattle.std.proofs.lemmas.Result.{err_from_is_err_and}
 use Rattle.line_parser.specs.FileReading.{At}
 use Rattle.line_parser.specs.declared.thin_file.ThinFault.TheVariants.{Memory}
-use Rattle.line_parser.proofs.WholeCells.{goes_on, has_more, last, less_room, next, view-push}
+use Rattle.line_parser.specs.Places.{Between, IsNoNext, none}
+use Rattle.line_parser.proofs.Stops.{led_on, stops_cells}
+use Rattle.line_parser.proofs.WholeCells.{begins, goes_on, has_more, last, less_room, next, start, view-push}
 use Rattle.notebook_meaning.specs.Thin.{cell_lines, text_of}
 use Rattle.py_tree.specs.View.{view_cell, view_cells}
 use Rattle.line_parser.proofs.cells.cells.Goals as goal
@@ -17,10 +19,17 @@ returns-in_err-next-clause-only c cells rest fits room e u v =
     let memory : c.in_err-next.field-0.0 ≡ Memory =
     elim (next c.args.reader.now c.loop-cells.reader (view_cells c.loop-cells.cells.items) cells rest inv.found fits room u (inv.continues cells rest fits room e u v)) as (λ _. c.in_err-next.field-0.0 ≡ Memory) [
       | inl n ↦ only n.cell (text_of (flat_map cell_lines n.more) ++ rest) n.fits n.room n.left n.apart
-      | inr n ↦ let none = ends (rw (← n.left) at v) in cc
+      | inr n ↦ let stop = ends (rw (← n.left) at v) in cc
     ] in
     let p = err_from_is_err_and c.from_residual.result c.from_residual.ensures.1 in
     rw (p.1, p.2) memory
+
+pub loop-cells-init : goal.loop-cells-init
+loop-cells-init c = record {
+  found = rw c.new-cells.ensures.items (start c.args.reader.now);
+  continues = rw c.new-cells.ensures.items (begins c.args.reader.now);
+  led = rw c.new-cells.ensures.items (inl (none Between));
+}
 
 pub loop-cells-preserved : goal.loop-cells-preserved
 loop-cells-preserved c =
@@ -32,6 +41,7 @@ loop-cells-preserved c =
     let v : view_cells c.push.new.self.items ≡ done ++ view_cell x ∷ [] = ap view_cells c.in_ok-push.ensures.items ∙ view-push c.loop-cells.cells.items x in
     record {
       found = rw v (has_more _ c.loop-cells.reader _ done (view_cell x) inv.found cell);
+      led = rw v (led_on c.loop-cells.reader _ done (view_cell x) inv.led cell (rw c.in-Some.is at c.in_ok-next.ensures.none));
       continues = rw v (goes_on _ c.loop-cells.reader _ done (view_cell x) inv.found inv.continues cell only);
     }
 
@@ -45,3 +55,16 @@ returns-clause-only c cells rest fits room e u v =
     let only = rw c.in_default.is at c.in_ok-next.ensures.only in
     let ended = last c.args.reader.now c.loop-cells.reader (view_cells c.loop-cells.cells.items) cells rest inv.found (λ cell after f r l b. (only cell after f r l b).0) fits room u (inv.continues cells rest fits room e u v) in
     (sym ended.parts, ap (λ (a : At). a.bytes) same ∙ ended.left)
+
+pub returns-in_err-next-clause-stuck : goal.returns-in_err-next-clause-stuck
+returns-in_err-next-clause-stuck c =
+    let inv = c.loop-cells.invariant in
+    let stuck = c.in_err-next.ensures.stuck in
+    let p = err_from_is_err_and c.from_residual.result c.from_residual.ensures.1 in
+    rw (p.1, p.2) (stops_cells c.args.reader.now c.loop-cells.reader (view_cells c.loop-cells.cells.items) c.in_err-next.field-0.0 inv.found inv.led stuck.0 (λ absent. stuck.1))
+
+pub returns-clause-led : goal.returns-clause-led
+returns-clause-led c =
+    let same : c.cell.new.reader ≡ c.loop-cells.reader = rw c.in_default.is at c.in_ok-next.ensures.found in
+    let absent : IsNoNext (λ line. line ≡ codes "@app.cell") c.loop-cells.reader.bytes = rw c.in_default.is at c.in_ok-next.ensures.none in
+    rw same (c.loop-cells.invariant.led, absent)

@@ -1,6 +1,9 @@
--- The cells so far, and that cells which the bytes begin with go on with what is left of them.
+-- The cells so far, that cells which the bytes begin with go on with what is left of them, and the place after the cells.
+use Rattle.std.specs.Prelude.{flat_map}
 use Rattle.line_parser.specs.FileReading.{HasCells}
+use Rattle.line_parser.proofs.Stops.{Led}
 use Rattle.line_parser.proofs.WholeCells.{Continues}
+use Rattle.notebook_meaning.specs.Thin.{cell_lines}
 use Rattle.py_tree.specs.View.{view_cells}
 use Rattle.line_parser.proofs.cells.cells.Given as goal
 
@@ -8,6 +11,7 @@ abbrev pub invariant-loop-cells : goal.invariant-loop-cells
 invariant-loop-cells l = record {
   found : HasCells l.fn.reader l.reader (view_cells l.cells.items);
   continues : Continues l.fn.reader l.reader (view_cells l.cells.items);
+  led : Led (flat_map cell_lines (view_cells l.cells.items)) l.reader.bytes;
 }
 
 abbrev pub decreases-loop-cells : goal.decreases-loop-cells

@@ -1,5 +1,5 @@
 -- No cell lies on a cycle, so the order lists every cell.
-use Rattle.std.proofs.Common.{◌≡◌, ◌<◌, ℕ, List, true, length, sym, ap, ◌∙◌, subst, arith}
+use Rattle.std.proofs.Common.{◌≡◌, ℕ, List, true, sym, ap, ◌∙◌, subst, arith}
 use Rattle.std.proofs.lemmas.List.{length-map}
 use Rattle.notebook_meaning.specs.Graph.{is_in, order, NoneCyclic}
 use Rattle.notebook_meaning.proofs.Orders.{free_is_listed}

@@ -7,6 +7,7 @@ use Rattle.py_tree.specs.Trees.{Head, stmt, Stmts, end, then_comes}
 use Rattle.py_tree.specs.View.{view_head, view_block}
 use Rattle.line_parser.specs.FileReading.{At, BeginsWith, HasBody, is_unbroken}
 use Rattle.line_parser.proofs.Breaks.{cut_once}
+use Rattle.line_parser.proofs.Stops.{stops_indented}
 use Rattle.line_parser.proofs.Texts.{unbroken_line}
 use Rattle.line_parser.proofs.Views.{view_line}
 use Rattle.line_parser.proofs.reader.Reader.stmt.Goals as goal
@@ -78,3 +79,16 @@ returns-clause-only c head rest line room e =
 pub returns-clause-ends : goal.returns-clause-ends
 returns-clause-ends c h =
     absurd (h (indented _ _ (ap (λ (a : At). a.bytes) c.self.view_is) _ _ c.in-Some.ensures.1))
+
+pub returns-then-self-eq0-clause-stuck : goal.returns-then-self-eq0-clause-stuck
+returns-then-self-eq0-clause-stuck c =
+    let room : 0 ≡ c.args.self.now.room = sym c.if-self-eq0.true ∙ ap (λ (a : At). a.room) c.self.view_is in
+    let indent = indented _ _ (ap (λ (a : At). a.bytes) c.self.view_is) _ _ c.in-Some.ensures.1 in
+    stops_indented c.args.self.now c.fault.result c.fault.ensures indent (λ next after e body. room)
+
+pub returns-in_default-2-clause-stuck : goal.returns-in_default-2-clause-stuck
+returns-in_default-2-clause-stuck c =
+    let bytes = ap (λ (a : At). a.bytes) c.self.view_is in
+    let indent = indented _ _ bytes _ _ c.in-Some.ensures.1 in
+    let none : (head : Head) → IsTrue (is_line head) → c.in-Some.text.now ≡ spaced (head_tokens head) → ⊥ = λ head fits text. let r : option_map view_head None ≡ Some head = rw c.in_default-2.is at (c.in_ok-line.ensures.only head fits text) in cc in
+    stops_indented c.args.self.now c.fault-in_default-2.result c.fault-in_default-2.ensures indent (λ next after e body. absurd (none body.0 body.1 (same_text _ _ bytes _ _ c.in-Some.ensures.1 c.in-Some.ensures.0 body.0 after body.1 (rw body.2 at e)).0))

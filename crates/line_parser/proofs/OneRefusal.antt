@@ -1,0 +1,140 @@
+-- Bytes are accepted, or refused for one reason.
+use Rattle.std.proofs.Common.{◌≡◌, ℕ, zero, suc, ◌+◌, ◌<◌, ◌≤◌, eqb, ⊎_elim, List, [], ◌∷◌, ◌++◌, length, take, Some, None, refl, sym, ap, ◌∙◌, subst, append_assoc, arith}
+use Rattle.std.specs.List.{count_by}
+use Rattle.std.proofs.lemmas.Bool.{cases_lt, eq-eqb, or_left}
+use Rattle.std.proofs.lemmas.Bool.Decides.{same_from_decides}
+use Rattle.std.proofs.lemmas.List.Elements.{filter_agree}
+use Rattle.std.proofs.lemmas.List.Sums.{sum_by-append}
+use Rattle.std.proofs.lemmas.Option.{same_Some}
+use Rattle.line_parser.proofs.OneToOne.{same_form}
+use Rattle.line_parser.proofs.Places.{text-append}
+use Rattle.notebook_meaning.proofs.Orders.{on_cycle_below}
+use Rattle.notebook_meaning.specs.Fails.{is_body_line, IsFormless, LinesFit, FailsAt}
+use Rattle.notebook_meaning.specs.Graph.{all_cells, is_in, name_again, first_definer, IsDoubled, NoneDoubled, AreCyclic, NoneCyclic}
+use Rattle.notebook_meaning.specs.Once.{IsAccepted, Refusal, Thin, Doubly, Cycle, FailsFirst}
+use Rattle.notebook_meaning.specs.Thin.{file_lines, text_of}
+use Rattle.py_tree.specs.Names.{Name}
+use Rattle.py_tree.specs.Trees.{Cell}
+
+-- ---- the line at which bytes fail
+
+-- bytes that fail at a line are no file
+formless : (bytes : List ℕ) (n : ℕ) → FailsAt bytes n → IsFormless bytes
+formless bytes zero fails = λ nb form. let short = form.short in omega arith
+formless bytes (suc k) fails = fails.3
+
+-- fewer lines, and those that come after them
+record IsFront {A : Type 0} (k j : ℕ) (xs : List A) : Type 0 where
+  more : List A
+  parts : take j xs ≡ take k xs ++ more
+
+front : {A : Type 0} (k j : ℕ) (xs : List A) → k ≤ j → IsFront k j xs
+front zero j xs le = record { more = take j xs; parts = refl }
+front (suc k) zero xs le = absurd (omega arith)
+front (suc k) (suc j) [] le = record { more = []; parts = refl }
+front (suc k) (suc j) (x ∷ xs) le =
+    let rest = front k j xs (omega arith) in
+    record { more = rest.more; parts = ap (λ l. x ∷ l) rest.parts }
+
+-- bytes that begin with some lines begin with fewer
+begins_before : (bytes : List ℕ) (k j : ℕ) → k ≤ j → LinesFit bytes j → LinesFit bytes k
+begins_before bytes k j le b =
+    let lines = file_lines b.cells in
+    let f = front k j lines le in
+    let sum : count_by is_body_line (take j lines) ≡ count_by is_body_line (take k lines) + count_by is_body_line f.more =
+    ap (count_by is_body_line) f.parts ∙ sum_by-append _ (take k lines) f.more in
+    let text : text_of (take j lines) ≡ text_of (take k lines) ++ text_of f.more =
+    ap text_of f.parts ∙ text-append (take k lines) f.more in
+    record {
+      cells = b.cells;
+      rest = text_of f.more ++ b.rest;
+      fits = b.fits;
+      long = omega (arith, b.long);
+      few = omega (arith, b.few);
+      text = b.text ∙ (ap (λ t. t ++ b.rest) text ∙ append_assoc (text_of (take k lines)) (text_of f.more) b.rest);
+    }
+
+-- no line before the one at which bytes fail
+none_before : (bytes : List ℕ) (k j : ℕ) → k < j → FailsAt bytes (suc k) → FailsAt bytes (suc j) → ⊥
+none_before bytes k j lt first second = first.2 (begins_before bytes (suc k) j (omega arith) second.1)
+
+same_place : (bytes : List ℕ) (k j : ℕ) → FailsAt bytes (suc k) → FailsAt bytes (suc j) → k ≡ j
+same_place bytes k j first second = ⊎_elim
+    (λ less. absurd (none_before bytes k j less first second))
+    (λ no_less. ⊎_elim
+    (λ more. absurd (none_before bytes j k more second first))
+    (λ no_more. omega arith)
+    (cases_lt j k))
+    (cases_lt k j)
+
+pub same_failure : (bytes : List ℕ) (m n : ℕ) → FailsAt bytes m → FailsAt bytes n → m ≡ n
+same_failure bytes zero zero p q = refl
+same_failure bytes zero (suc j) p q = absurd (let short = q.0 in omega arith)
+same_failure bytes (suc k) zero p q = absurd (let short = p.0 in omega arith)
+same_failure bytes (suc k) (suc j) p q = ap suc (same_place bytes k j p q)
+
+-- ---- the name that is defined again
+
+-- a cell defines a name again or none
+some_again : (nb : List Cell) (x : Name) (c : ℕ) → name_again nb c ≡ Some x → name_again nb c ≡ None → ⊥
+some_again nb x c some none = let bad : None ≡ Some x = sym none ∙ some in cc
+
+-- two cells aren't both the first that defines a name again
+same_second : (nb : List Cell) (x y : Name) (first first' second second' : ℕ) → IsDoubled nb x first second → IsDoubled nb y first' second' → second ≡ second'
+same_second nb x y first first' second second' p q = ⊎_elim
+    (λ less. absurd (some_again nb x second p.again (q.soonest second less)))
+    (λ no_less. ⊎_elim
+    (λ more. absurd (some_again nb y second' q.again (p.soonest second' more)))
+    (λ no_more. omega arith)
+    (cases_lt second' second))
+    (cases_lt second second')
+
+same_doubled : (nb : List Cell) (x y : Name) (first first' second second' : ℕ) → IsDoubled nb x first second → IsDoubled nb y first' second' → Doubly x first second ≡ Doubly y first' second'
+same_doubled nb x y first first' second second' p q =
+    let c : second ≡ second' = same_second nb x y first first' second second' p q in
+    let name : x ≡ y = same_Some x y (sym p.again ∙ (ap (name_again nb) c ∙ q.again)) in
+    let earliest : first ≡ first' = same_Some first first' (sym p.earliest ∙ (ap (first_definer nb) name ∙ q.earliest)) in
+    cc
+
+-- ---- the cells of cycles
+
+same_cyclic : (nb : List Cell) (cells others : List ℕ) → AreCyclic nb cells → AreCyclic nb others → cells ≡ others
+same_cyclic nb cells others p q =
+    let agree : (c : ℕ) → is_in c cells ≡ is_in c others = λ c. same_from_decides (is_in c cells) (is_in c others) (p.each c, p.every c) (q.each c, q.every c) in
+    p.rising ∙ (filter_agree (λ c. is_in c cells) (λ c. is_in c others) agree (all_cells nb) ∙ sym q.rising)
+
+some_cyclic : (nb : List Cell) (cells : List ℕ) → AreCyclic nb cells → 0 < length cells → NoneCyclic nb → ⊥
+some_cyclic nb [] cyclic some free = omega arith
+some_cyclic nb (c ∷ cs) cyclic some free =
+    let cycle = cyclic.each c (or_left (eqb c c) _ (eq-eqb c c refl)) in
+    free c (on_cycle_below nb c cycle) cycle
+
+-- ---- one reason
+
+pub none_refused : (bytes : List ℕ) (nb : List Cell) (why : Refusal) → IsAccepted bytes nb → FailsFirst bytes why → ⊥
+none_refused bytes nb (Thin line) ok fails = formless bytes line fails nb ok.form
+none_refused bytes nb (Doubly x first second) ok fails =
+    let same = same_form bytes nb fails.0 ok.form fails.1 in
+    some_again fails.0 x second fails.2.again (subst NoneDoubled same ok.once second)
+none_refused bytes nb (Cycle cells) ok fails =
+    let same = same_form bytes nb fails.0 ok.form fails.1 in
+    some_cyclic fails.0 cells fails.3 fails.4 (subst NoneCyclic same ok.free)
+
+pub same_refusal : (bytes : List ℕ) (a b : Refusal) → FailsFirst bytes a → FailsFirst bytes b → a ≡ b
+same_refusal bytes (Thin m) (Thin n) p q = ap Thin (same_failure bytes m n p q)
+same_refusal bytes (Thin m) (Doubly y first second) p q = absurd (formless bytes m p q.0 q.1)
+same_refusal bytes (Thin m) (Cycle others) p q = absurd (formless bytes m p q.0 q.1)
+same_refusal bytes (Doubly x first second) (Thin n) p q = absurd (formless bytes n q p.0 p.1)
+same_refusal bytes (Doubly x first second) (Doubly y first' second') p q =
+    let same = same_form bytes q.0 p.0 q.1 p.1 in
+    same_doubled p.0 x y first first' second second' p.2 (subst (λ (nb : List Cell). IsDoubled nb y first' second') same q.2)
+same_refusal bytes (Doubly x first second) (Cycle others) p q =
+    let same = same_form bytes q.0 p.0 q.1 p.1 in
+    absurd (some_again p.0 x second p.2.again (subst NoneDoubled same q.2 second))
+same_refusal bytes (Cycle cells) (Thin n) p q = absurd (formless bytes n q p.0 p.1)
+same_refusal bytes (Cycle cells) (Doubly y first second) p q =
+    let same = same_form bytes p.0 q.0 p.1 q.1 in
+    absurd (some_again q.0 y second q.2.again (subst NoneDoubled same p.2 second))
+same_refusal bytes (Cycle cells) (Cycle others) p q =
+    let same = same_form bytes q.0 p.0 q.1 p.1 in
+    ap Cycle (same_cyclic p.0 cells others p.3 (subst (λ (nb : List Cell). AreCyclic nb others) same q.3))

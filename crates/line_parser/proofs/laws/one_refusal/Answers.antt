@@ -1,0 +1,12 @@
+-- The refusals of some bytes.
+use Rattle.line_parser.proofs.OneRefusal.{none_refused, same_failure, same_refusal}
+use Rattle.line_parser.proofs.laws.one_refusal.Goals as goal
+
+pub returns-clause-apart : goal.returns-clause-apart
+returns-clause-apart c = none_refused
+
+pub returns-clause-line : goal.returns-clause-line
+returns-clause-line c = same_failure
+
+pub returns-clause-once : goal.returns-clause-once
+returns-clause-once c = same_refusal
