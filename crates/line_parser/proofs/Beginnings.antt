@@ -1,23 +1,19 @@
 -- Where reading stops, no file of the thin form begins with one line more.
-use Rattle.std.proofs.Common.{◌≡◌, ℕ, suc, ◌+◌, ◌<◌, ◌≤◌, Bool, true, false, not, cond, eqb, IsTrue, List, [], ◌∷◌, ◌++◌, length, take, drop, Some, None, refl, sym, ap, ◌∙◌, append_assoc, add-zero, length-append, arith, subst}
+use Rattle.std.proofs.Common.{◌≡◌, ℕ, suc, ◌+◌, ◌<◌, ◌≤◌, true, not, cond, eqb, IsTrue, List, [], ◌∷◌, ◌++◌, length, take, drop, refl, sym, ap, ◌∙◌, append_assoc, add-zero, length-append, arith, subst}
 use Rattle.std.specs.Prelude.{codes, flat_map}
-use Rattle.std.specs.List.{count_by, list_all}
-use Rattle.std.specs.Str.{bytes_eq}
-use Rattle.std.proofs.lemmas.Bool.{and_parts, and_from, eq-eqb, not_from_false, false_from_ne_true, false≢true}
-use Rattle.std.proofs.lemmas.List.{take-append-drop, length-take-le, take_at, append_cancel_left}
+use Rattle.std.specs.List.{count_by}
+use Rattle.std.proofs.lemmas.Bool.{and_parts, and_from, eq-eqb, false≢true}
+use Rattle.std.proofs.lemmas.List.{take-append-drop, length-take-le, take_at}
 use Rattle.std.proofs.lemmas.List.Sums.{sum_by-append}
-use Rattle.std.proofs.lemmas.Slice.Eq.{bytes_eq-Decides}
 use Rattle.line_parser.specs.FileReading.{is_unbroken}
 use Rattle.line_parser.specs.Places.{Place, First, Second, Between, Definition, Body, AfterBody, Last, Past, IsBody, Fits, first, second, decorator, main, definition, body, next_body, next_decorator, next_main, last, Leads, none, then_fits, IsStuck}
-use Rattle.line_parser.specs.Words.{words}
-use Rattle.line_parser.specs.Sums.{read_line}
 use Rattle.line_parser.proofs.Breaks.{cut_once}
-use Rattle.line_parser.proofs.SumOnly.{line_only}
+use Rattle.line_parser.proofs.OneToOne.{are_unbroken}
+use Rattle.line_parser.proofs.Stops.{body_is_line}
 use Rattle.line_parser.proofs.Texts.{unbroken_line}
 use Rattle.notebook_meaning.specs.Fails.{last_line, is_body_line, LinesFit, FailsAt}
-use Rattle.notebook_meaning.specs.Thin.{IsForm, is_line, is_empty, are_lines, line_count, is_cell, are_cells, line_text, body_lines, cell_lines, footer, file_lines, text_of}
-use Rattle.py_tree.specs.Tokens.{spaced, head_tokens}
-use Rattle.py_tree.specs.Trees.{Head, value, name, stmt, Stmts, end, then_comes, Cell}
+use Rattle.notebook_meaning.specs.Thin.{IsForm, is_empty, are_lines, line_count, is_cell, are_cells, line_text, body_lines, cell_lines, footer, file_lines, text_of}
+use Rattle.py_tree.specs.Trees.{value, name, stmt, Stmts, end, then_comes, Cell}
 
 -- the place after a line that fits, by the line's first byte
 abbrev next_place : Place → List ℕ → Place
@@ -64,12 +60,6 @@ leads_to p r lines (then_fits from q to line rest fit lead) =
 leads_once : (p q r : Place) (lines : List (List ℕ)) → Leads p lines q → Leads p lines r → q ≡ r
 leads_once p q r lines a b = sym (leads_to p q lines a) ∙ leads_to p r lines b
 
--- lines that lead on from where others lead to
-pub leads_both : (p q r : Place) (xs ys : List (List ℕ)) → Leads p xs q → Leads q ys r → Leads p (xs ++ ys) r
-leads_both p q r xs ys (none s) b = b
-leads_both p q r xs ys (then_fits from s to line rest fit lead) b =
-    then_fits from s r line (rest ++ ys) fit (leads_both s to r rest ys lead b)
-
 -- a first line fits, and the others lead on
 opened : (p r : Place) (line : List ℕ) (lines : List (List ℕ)) → Leads p (line ∷ lines) r → (q : Place) × Fits p line q × Leads q lines r
 opened p r line lines (then_fits from q to l rest fit lead) = (q, fit, lead)
@@ -99,11 +89,7 @@ fits_unbroken p q line (next_decorator l e) = rw e refl
 fits_unbroken p q line (next_main l e) = rw e refl
 fits_unbroken p q line (last l e) = rw e refl
 
--- no line holds a `\n`
-abbrev are_unbroken : List (List ℕ) → Bool
-are_unbroken = list_all is_unbroken
-
--- nor does any of lines that fit
+-- no line of those that fit holds a `\n`
 leads_unbroken : (p q : Place) (lines : List (List ℕ)) → Leads p lines q → IsTrue (are_unbroken lines)
 leads_unbroken p q lines (none s) = refl
 leads_unbroken p q lines (then_fits from s to line rest fit lead) =
@@ -130,19 +116,9 @@ agree (x ∷ xs) (y ∷ ys) a b p q n e =
       left = further.left;
     }
 
--- a body line is not the last line
-not_last : (text : List ℕ) (h : Head) → IsTrue (is_line h) → text ≡ spaced (head_tokens h) → text ≡ codes "app.run()" → ⊥
-not_last text h fits e f =
-    let read : read_line (words text) ≡ Some h = line_only text h fits e in
-    let nothing : read_line (words text) ≡ None = rw f refl in
-    cc
-
--- a line of the form is a body line by its bytes
+-- the line of a body is a body line
 body_is : (line : List ℕ) → IsBody line → is_body_line line ≡ true
-body_is line b =
-    let text = spaced (head_tokens b.0) in
-    let other : bytes_eq (line_text b.0) last_line ≡ false = false_from_ne_true _ (λ same. not_last text b.0 b.1 refl (append_cancel_left (codes "    ") _ _ ((bytes_eq-Decides (line_text b.0) last_line).0 same))) in
-    rw b.2 (not_from_false _ other)
+body_is line b = rw b.2 (body_is_line b.0 b.1)
 
 -- lines from a place between cells on, the next of which has this number: cells, and the last lines
 record FromBetween (number : ℕ) (lines : List (List ℕ)) : Type 0 where

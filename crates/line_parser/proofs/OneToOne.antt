@@ -31,7 +31,7 @@ same_line a b p q e =
 -- ---- the lines of a text
 
 -- no line holds a `\n`
-abbrev are_unbroken : List (List ℕ) → Bool
+abbrev pub are_unbroken : List (List ℕ) → Bool
 are_unbroken = list_all is_unbroken
 
 -- the first line, and what comes after it
