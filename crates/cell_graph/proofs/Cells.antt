@@ -195,5 +195,5 @@ module _ (nb : List Cell) (lists later : List (List Name)) (names : List Name) (
 
 -- where the order is short, some cell lies on a cycle
 pub some_cyclic : (nb : List Cell) (cells : List ℕ) → AreCyclic nb cells → length (order nb) < length nb → 0 < length cells
-some_cyclic nb [] all short = absurd (short_is_cyclic nb short (λ c below lies. both_ways false refl (all.every c lies)))
+some_cyclic nb [] all short = absurd (short_is_cyclic nb short (λ c lies. both_ways false refl (all.every c lies)))
 some_cyclic nb (c ∷ cs) all short = omega arith

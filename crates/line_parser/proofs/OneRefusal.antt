@@ -8,7 +8,6 @@ use Rattle.std.proofs.lemmas.List.Sums.{sum_by-append}
 use Rattle.std.proofs.lemmas.Option.{same_Some}
 use Rattle.line_parser.proofs.OneToOne.{same_form}
 use Rattle.line_parser.proofs.Places.{text-append}
-use Rattle.notebook_meaning.proofs.Orders.{on_cycle_below}
 use Rattle.notebook_meaning.specs.Fails.{is_body_line, IsFormless, LinesFit, FailsAt}
 use Rattle.notebook_meaning.specs.Graph.{all_cells, is_in, name_again, first_definer, IsDoubled, NoneDoubled, AreCyclic, NoneCyclic}
 use Rattle.notebook_meaning.specs.Once.{IsAccepted, Refusal, Thin, Doubly, Cycle, FailsFirst}
@@ -106,8 +105,7 @@ same_cyclic nb cells others p q =
 some_cyclic : (nb : List Cell) (cells : List ℕ) → AreCyclic nb cells → 0 < length cells → NoneCyclic nb → ⊥
 some_cyclic nb [] cyclic some free = omega arith
 some_cyclic nb (c ∷ cs) cyclic some free =
-    let cycle = cyclic.each c (or_left (eqb c c) _ (eq-eqb c c refl)) in
-    free c (on_cycle_below nb c cycle) cycle
+    free c (cyclic.each c (or_left (eqb c c) _ (eq-eqb c c refl)))
 
 -- ---- one reason
 
@@ -118,7 +116,7 @@ none_refused bytes nb (Doubly x first second) ok fails =
     some_again fails.0 x second fails.2.again (subst NoneDoubled same ok.once second)
 none_refused bytes nb (Cycle cells) ok fails =
     let same = same_form bytes nb fails.0 ok.form fails.1 in
-    some_cyclic fails.0 cells fails.3 fails.4 (subst NoneCyclic same ok.free)
+    some_cyclic fails.0 cells fails.2.all fails.2.some (subst NoneCyclic same ok.free)
 
 pub same_refusal : (bytes : List ℕ) (a b : Refusal) → FailsFirst bytes a → FailsFirst bytes b → a ≡ b
 same_refusal bytes (Thin m) (Thin n) p q = ap Thin (same_failure bytes m n p q)
@@ -130,11 +128,11 @@ same_refusal bytes (Doubly x first second) (Doubly y first' second') p q =
     same_doubled p.0 x y first first' second second' p.2 (subst (λ (nb : List Cell). IsDoubled nb y first' second') same q.2)
 same_refusal bytes (Doubly x first second) (Cycle others) p q =
     let same = same_form bytes q.0 p.0 q.1 p.1 in
-    absurd (some_again p.0 x second p.2.again (subst NoneDoubled same q.2 second))
+    absurd (some_again p.0 x second p.2.again (subst NoneDoubled same q.2.once second))
 same_refusal bytes (Cycle cells) (Thin n) p q = absurd (formless bytes n q p.0 p.1)
 same_refusal bytes (Cycle cells) (Doubly y first second) p q =
     let same = same_form bytes p.0 q.0 p.1 q.1 in
-    absurd (some_again q.0 y second q.2.again (subst NoneDoubled same p.2 second))
+    absurd (some_again q.0 y second q.2.again (subst NoneDoubled same p.2.once second))
 same_refusal bytes (Cycle cells) (Cycle others) p q =
     let same = same_form bytes q.0 p.0 q.1 p.1 in
-    ap Cycle (same_cyclic p.0 cells others p.3 (subst (λ (nb : List Cell). AreCyclic nb others) same q.3))
+    ap Cycle (same_cyclic p.0 cells others p.2.all (subst (λ (nb : List Cell). AreCyclic nb others) same q.2.all))

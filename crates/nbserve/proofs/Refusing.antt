@@ -16,5 +16,5 @@ refused_by_form bytes form.Memory cause = tt
 
 pub refused_by_graph : (bytes : List ℕ) (cells : List Cell) (fault : GraphFault) → IsForm bytes cells → graph_refused.IsCauseOf fault cells → IsWhy (of_graph fault) bytes
 refused_by_graph bytes cells (graph.Doubly x first second) of cause = (cells, of, cause)
-refused_by_graph bytes cells (graph.Cycle on) of cause = (cells, of, cause.0, cause.1, cause.2)
+refused_by_graph bytes cells (graph.Cycle on) of cause = (cells, of, cause)
 refused_by_graph bytes cells graph.Memory of cause = tt

@@ -223,7 +223,7 @@ all_listed nb c full below = ⊎_elim
 
 -- where the order has as many cells as the notebook, no cell lies on a cycle
 pub full_is_free : (nb : List Cell) → length (order nb) ≡ length nb → NoneCyclic nb
-full_is_free nb full c below cycle = not_on_cycle nb (length nb) c (all_listed nb c full below) cycle
+full_is_free nb full c cycle = not_on_cycle nb (length nb) c (all_listed nb c full (on_cycle_below nb c cycle)) cycle
 
 -- ---- a short order leaves a cell of a cycle
 
@@ -305,7 +305,7 @@ walk nb listed c stuck free below absent (suc steps) =
     let parent = parent_unlisted nb listed w.first unready w.unlisted in
     ⊎_elim
     (λ met.
-    absurd (free parent.at (from_cell nb parent.at w.first parent.kept) (chain_to nb parent.at (w.first ∷ w.rest) parent.at (parent.kept, w.chain) met)))
+    absurd (free parent.at (chain_to nb parent.at (w.first ∷ w.rest) parent.at (parent.kept, w.chain) met)))
     (λ new. longer nb listed steps parent.at w parent.kept parent.fails new)
     (cases_Bool (is_in parent.at (w.first ∷ w.rest)))
 
@@ -347,7 +347,7 @@ short_is_cyclic nb short free = ⊎_elim
 
 -- where the order lists every cell, none lies on a cycle
 pub listed_is_free : (nb : List Cell) → ((c : ℕ) → c < length nb → is_in c (order nb) ≡ true) → NoneCyclic nb
-listed_is_free nb each c below = not_on_cycle nb (length nb) c (each c below)
+listed_is_free nb each c cycle = not_on_cycle nb (length nb) c (each c (on_cycle_below nb c cycle)) cycle
 
 -- where no cell lies on a cycle, the order lists every cell
 pub free_is_listed : (nb : List Cell) → NoneCyclic nb → (c : ℕ) → c < length nb → is_in c (order nb) ≡ true

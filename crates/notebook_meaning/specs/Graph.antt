@@ -94,10 +94,16 @@ NoneDoubled nb = (c : ℕ) → name_again nb c ≡ None
 
 -- no cell lies on a cycle
 abbrev pub NoneCyclic : List Cell → Type 0
-NoneCyclic nb = (c : ℕ) → c < length nb → LiesOnCycle nb c → ⊥
+NoneCyclic nb = (c : ℕ) → LiesOnCycle nb c → ⊥
 
 -- the cells that lie on a cycle, each once, in file order
 pub record AreCyclic (nb : List Cell) (cells : List ℕ) : Type 0 where
   pub each : (c : ℕ) → IsTrue (is_in c cells) → LiesOnCycle nb c
   pub every : (c : ℕ) → LiesOnCycle nb c → IsTrue (is_in c cells)
   pub rising : cells ≡ filter (λ c. is_in c cells) (all_cells nb)
+
+-- no name is defined in two cells, and these are the cells that lie on a cycle, one or more
+pub record IsCyclic (nb : List Cell) (cells : List ℕ) : Type 0 where
+  pub once : NoneDoubled nb
+  pub all : AreCyclic nb cells
+  pub some : 0 < length cells

@@ -1,9 +1,9 @@
 -- What the program writes, and its status.
-use Rattle.std.specs.Prelude.{◌≡◌, ℕ, ◌+◌, ◌<◌, Bool, false, cond, not, ◌&&◌, ◌==◌, List, [], ◌∷◌, ◌++◌, length, flat_map, take, codes, decimal, Option, Some, None, IfSome}
+use Rattle.std.specs.Prelude.{◌≡◌, ℕ, ◌+◌, Bool, false, cond, not, ◌&&◌, ◌==◌, List, [], ◌∷◌, ◌++◌, flat_map, take, codes, decimal, Option, Some, None, IfSome}
 use Rattle.std.specs.Str.{bytes_eq}
 use Rattle.py_tree.specs.Names.{Name}
 use Rattle.py_tree.specs.Trees.{Cell}
-use Rattle.notebook_meaning.specs.Graph.{IsDoubled, NoneDoubled, AreCyclic, NoneCyclic}
+use Rattle.notebook_meaning.specs.Graph.{IsDoubled, NoneDoubled, NoneCyclic, IsCyclic}
 use Rattle.notebook_meaning.specs.Fails.{FailsAt}
 use Rattle.notebook_meaning.specs.Thin.{IsForm, byte_limit}
 use Rattle.notebook_meaning.specs.Answer.{Open, solo}
@@ -29,7 +29,7 @@ pub data Refusal : Type 0 where
 abbrev pub FailsFirst : List ℕ → Refusal → Type 0
 FailsFirst bytes (Thin line) = FailsAt bytes line
 FailsFirst bytes (Doubly x first second) = (nb : List Cell) × IsForm bytes nb × IsDoubled nb x first second
-FailsFirst bytes (Cycle cells) = (nb : List Cell) × IsForm bytes nb × NoneDoubled nb × AreCyclic nb cells × (0 < length cells)
+FailsFirst bytes (Cycle cells) = (nb : List Cell) × IsForm bytes nb × IsCyclic nb cells
 
 -- the line that is written for bytes that are refused
 abbrev pub refusal_text : Refusal → List ℕ

@@ -38,7 +38,7 @@ returns-then-len-clause-refused c =
     let size = length-map c.args.cells.items view_cell in
     let short : length (order nb) < length nb = omega (arith, ap length ordered) in
     let cyclic = c.in_ok-cyclic_cells.ensures nb (search (arith, parents)) in
-    (c.in_ok-above.ensures.once nb defined, cyclic, some_cyclic nb _ cyclic short)
+    record { once = c.in_ok-above.ensures.once nb defined; all = cyclic; some = some_cyclic nb _ cyclic short }
 
 pub invariant_of-result : goal.invariant_of-result
 invariant_of-result c =

@@ -116,9 +116,7 @@ pub returns-clause-cycle : goal.returns-clause-cycle
 returns-clause-cycle c = (
   cyclic,
   record { thin = refl; text = refl; short = lit≤ tt },
-  none_doubled_cyclic,
-  record { each = on_cycle; every = only_on; rising = refl },
-  lit≤ tt,
+  record { once = none_doubled_cyclic; all = record { each = on_cycle; every = only_on; rising = refl }; some = lit≤ tt },
 )
 
 pub returns-clause-range : goal.returns-clause-range
