@@ -44,69 +44,71 @@ fn reads_no_cells(rt: HostRuntime) {
     assert_eq!(rt; outcome(rt.alloc(), bytes), Ok(()));
 }
 
+// Files that have not the form, each with the line at which it fails.
+const FAILING: [(&[u8], u32); 19] = [
+    (b"", 1),
+    (b"import marimo\r\napp = marimo.App()\r\n", 1),
+    (b"app = marimo.App()\n", 1),
+    (b"import marimo\n", 2),
+    (b"import marimo\napp = marimo.App()\ndef _():\n    x\n", 3),
+    (b"import marimo\napp = marimo.App()\n@app.cell\n    x\n", 4),
+    (
+        b"import marimo\napp = marimo.App()\n@app.cell\ndef _():\n@app.cell\n",
+        5,
+    ),
+    (
+        b"import marimo\napp = marimo.App()\n@app.cell\ndef _():\n   x\n",
+        5,
+    ),
+    (
+        b"import marimo\napp = marimo.App()\n@app.cell\ndef _():\n     x\n",
+        5,
+    ),
+    (
+        b"import marimo\napp = marimo.App()\n@app.cell\ndef _():\n    x\r\n",
+        5,
+    ),
+    (
+        b"import marimo\napp = marimo.App()\n@app.cell\ndef _():\n    x\n    if = 1\n",
+        6,
+    ),
+    (
+        b"import marimo\napp = marimo.App()\n@app.cell\ndef _():\n    x = 170141183460469231731687303715884105728\n",
+        5,
+    ),
+    (
+        b"import marimo\napp = marimo.App()\n@app.cell\ndef _():\n    1 + 1 + 1 + 1 + 1 + 1 + 1 + 1 + 1 + 1 + 1 + 1 + 1 + 1 + 1 + 1 + 1 + 1 + 1 + 1 + 1 + 1 + 1 + 1 + 1 + 1 + 1 + 1 + 1 + 1 + 1 + 1 + 1\n",
+        5,
+    ),
+    (
+        b"import marimo\napp = marimo.App()\n@app.cell\ndef _():\n    x\n    y",
+        6,
+    ),
+    (
+        b"import marimo\napp = marimo.App()\n@app.cell\ndef _():\n    x\n\n",
+        6,
+    ),
+    (
+        b"import marimo\napp = marimo.App()\nif __name__ == '__main__':\n    app.run()\n",
+        3,
+    ),
+    (
+        b"import marimo\napp = marimo.App()\nif __name__ == \"__main__\":\n",
+        4,
+    ),
+    (
+        b"import marimo\napp = marimo.App()\nif __name__ == \"__main__\":\n    app.run()",
+        4,
+    ),
+    (
+        b"import marimo\napp = marimo.App()\nif __name__ == \"__main__\":\n    app.run()\n\n",
+        5,
+    ),
+];
+
 #[test]
 fn refuses_the_first_line_that_does_not_fit(rt: HostRuntime) {
-    let files: [(&[u8], u32); 19] = [
-        (b"", 1),
-        (b"import marimo\r\napp = marimo.App()\r\n", 1),
-        (b"app = marimo.App()\n", 1),
-        (b"import marimo\n", 2),
-        (b"import marimo\napp = marimo.App()\ndef _():\n    x\n", 3),
-        (b"import marimo\napp = marimo.App()\n@app.cell\n    x\n", 4),
-        (
-            b"import marimo\napp = marimo.App()\n@app.cell\ndef _():\n@app.cell\n",
-            5,
-        ),
-        (
-            b"import marimo\napp = marimo.App()\n@app.cell\ndef _():\n   x\n",
-            5,
-        ),
-        (
-            b"import marimo\napp = marimo.App()\n@app.cell\ndef _():\n     x\n",
-            5,
-        ),
-        (
-            b"import marimo\napp = marimo.App()\n@app.cell\ndef _():\n    x\r\n",
-            5,
-        ),
-        (
-            b"import marimo\napp = marimo.App()\n@app.cell\ndef _():\n    x\n    if = 1\n",
-            6,
-        ),
-        (
-            b"import marimo\napp = marimo.App()\n@app.cell\ndef _():\n    x = 170141183460469231731687303715884105728\n",
-            5,
-        ),
-        (
-            b"import marimo\napp = marimo.App()\n@app.cell\ndef _():\n    1 + 1 + 1 + 1 + 1 + 1 + 1 + 1 + 1 + 1 + 1 + 1 + 1 + 1 + 1 + 1 + 1 + 1 + 1 + 1 + 1 + 1 + 1 + 1 + 1 + 1 + 1 + 1 + 1 + 1 + 1 + 1 + 1\n",
-            5,
-        ),
-        (
-            b"import marimo\napp = marimo.App()\n@app.cell\ndef _():\n    x\n    y",
-            6,
-        ),
-        (
-            b"import marimo\napp = marimo.App()\n@app.cell\ndef _():\n    x\n\n",
-            6,
-        ),
-        (
-            b"import marimo\napp = marimo.App()\nif __name__ == '__main__':\n    app.run()\n",
-            3,
-        ),
-        (
-            b"import marimo\napp = marimo.App()\nif __name__ == \"__main__\":\n",
-            4,
-        ),
-        (
-            b"import marimo\napp = marimo.App()\nif __name__ == \"__main__\":\n    app.run()",
-            4,
-        ),
-        (
-            b"import marimo\napp = marimo.App()\nif __name__ == \"__main__\":\n    app.run()\n\n",
-            5,
-        ),
-    ];
-    for (bytes, line) in files {
+    for (bytes, line) in FAILING {
         assert_eq!(rt;
             outcome(rt.alloc(), bytes),
             Err(ThinFault::Thin { line }),
