@@ -40,6 +40,7 @@ fn add_definitions<'a>(
 {
     for name in names {
         if let Some(first) = table.insert(name.items(), cell)? {
+            // It always holds, as the names of a cell differ; but that is shown nowhere, and without the test it would have to be.
             if first != cell {
                 return Err(doubly(alloc, name.items(), first, cell)?);
             }
