@@ -59,7 +59,8 @@ impl<R: SystemFiles> RealFiles<R> {
 
     // Opens a file at a place. Only a place past the beginning needs a seek.
     fn open(&mut self, name: &str, from: u64) -> Result<Opened<R::File>, Failed>
-        ensures { self.new.faults ≡ self.old.faults }
+        ensures at { IfOk result (λ opened. opened.at ≡ from) }
+        ensures faults { self.new.faults ≡ self.old.faults }
     {
         let Ok(kept) = ArrayString::from(name) else {
             return Err(Failed);
@@ -76,7 +77,8 @@ impl<R: SystemFiles> RealFiles<R> {
 
     // The file at a place: the one that was read last, where it stands there, or else opened anew.
     fn opened_at(&mut self, name: &str, from: u64) -> Result<Opened<R::File>, Failed>
-        ensures { self.new.faults ≡ self.old.faults }
+        ensures at { IfOk result (λ opened. opened.at ≡ from) }
+        ensures faults { self.new.faults ≡ self.old.faults }
     {
         if let Some(opened) = self.last.take() {
             if opened.at == from && self.name.as_str() == name {

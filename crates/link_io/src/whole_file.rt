@@ -42,7 +42,7 @@ fn read_piece<F: Files>(
     }
 }
 
-/// The bytes of a file, or the first `limit + 1` of them where it has more. No more is read or held.
+/// The bytes of a file, or the first `limit + 1` of them where it has more.
 pub fn read_file<F: Files>(
     alloc: Global,
     files: &mut F,
