@@ -41,13 +41,22 @@ comes_range holds unread words status text (once.refused file bytes why a r firs
 comes_range holds unread words status text (once.usage a e t) = subst (λ n. n ≤ 3) (sym e) (lit≤ tt)
 comes_range holds unread words status text (once.unread file a f e t) = subst (λ n. n ≤ 3) (sym e) (lit≤ tt)
 
-same_name : (f file : List ℕ) → Some (Once f) ≡ Some (Once file) → f ≡ file
+-- where a text of another status was written, the answer isn't 0
+pub not_done : (status : ℕ) (text : List ℕ) (result : ℕ) (before now : Option (List ℕ)) (unwritten : Type 0) → (status ≡ 0 → ⊥) → Ended status text result before now unwritten → result ≡ 0 → ⊥
+not_done status text result before now unwritten other (wrote.whole e took) zero = other (sym e ∙ zero)
+not_done status text result before now unwritten other (wrote.cut e why part) zero = omega (arith, e, zero)
+
+pub not_refused : (why : Refusal) (result : ℕ) (before now : Option (List ℕ)) (unwritten : Type 0) → Refuses why result before now unwritten → result ≡ 0 → ⊥
+not_refused why result before now unwritten (wrote.written ended) zero = not_done 1 (refusal_text why) result before now unwritten (λ e. omega (arith, e)) ended zero
+not_refused why result before now unwritten (wrote.nothing e same) zero = omega (arith, e, zero)
+
+pub same_name : (f file : List ℕ) → Some (Once f) ≡ Some (Once file) → f ≡ file
 same_name f file e = cc
 
 same_bytes : (t : Option (List ℕ)) (all other : List ℕ) → t ≡ Some all → t ≡ Some other → all ≡ other
 same_bytes t all other h k = cc
 
-told_read : (o : Option (Option (List ℕ))) (all bytes : List ℕ) → o ≡ Some (Some all) → IfSome o (λ told. (rest : List ℕ) × (told ≡ Some rest) × (bytes ≡ read_of rest)) → bytes ≡ read_of all
+pub told_read : (o : Option (Option (List ℕ))) (all bytes : List ℕ) → o ≡ Some (Some all) → IfSome o (λ told. (rest : List ℕ) × (told ≡ Some rest) × (bytes ≡ read_of rest)) → bytes ≡ read_of all
 told_read o all bytes e r =
     let h : (rest : List ℕ) × (Some all ≡ Some rest) × (bytes ≡ read_of rest) = subst (λ p. IfSome p (λ told. (rest : List ℕ) × (told ≡ Some rest) × (bytes ≡ read_of rest))) e r in
     h.2 ∙ ap read_of (same_bytes (Some all) h.0 all h.1 refl)

@@ -1,6 +1,10 @@
 // The opening of a notebook's bytes, and why one isn't opened.
-ghost use Rattle.std.specs.Prelude.{◌≡◌, IfErr, IfOk};
+ghost use Rattle.std.specs.Prelude.{◌≡◌, ◌+◌, [], IfErr, IfOk, List, sum};
 ghost use Rattle.nbserve.specs.Unopened.{IsOpening, IsWhy, of_form, of_graph};
+ghost use Rattle.notebook_meaning.specs.Once.{usual_budget};
+ghost use Rattle.notebook_meaning.specs.Thin.{IsForm};
+ghost use Rattle.notebook_meaning.specs.Whole.{whole};
+ghost use Rattle.py_tree.specs.Trees.{Cell};
 
 use crate::progress::open_notebook;
 use crate::refusal::Refusal;
@@ -74,13 +78,15 @@ impl From<Memory> for Unopened {
 // The usual budget of a cell, in steps.
 const USUAL_BUDGET: u64 = 200_000;
 
-/// What `once` writes for the bytes of a notebook.
+/// What `once` writes for the bytes of a notebook. It counts the steps that the run of the whole notebook costs.
 pub fn opening_text<L: Ledger>(
     alloc: Global,
     bytes: &[u8],
     steps: &mut Steps<L>,
 ) -> Result<Vec<u8>, Unopened>
     ensures opened { IfOk result (λ text. IsOpening bytes.now text.items) }
+    ensures steps { IfOk result (λ text. (nb : List Cell) → IsForm bytes.now nb
+        → steps.new ≡ steps.old + sum (whole nb usual_budget []).costs) }
     ensures refused { IfErr result (λ why. IsWhy why bytes.now) }
 {
     let cells = thin(alloc, bytes)?;

@@ -1,9 +1,11 @@
 // The top call.
-ghost use Rattle.std.specs.Prelude.{◌≡◌, ◌⊎◌, ℕ, ◌≤◌, List, map, string_bytes, Some, None};
+ghost use Rattle.std.specs.Prelude.{◌≡◌, ◌⊎◌, ℕ, ◌+◌, ◌≤◌, List, [], map, string_bytes, sum, Some, None};
 ghost use Rattle.link_io.specs.Outside.{Rose};
 ghost use Rattle.nbserve.specs.Refused.{refusal_of};
 ghost use Rattle.nbserve.specs.Wrote.{Wrote, Ended, Refuses};
-ghost use Rattle.notebook_meaning.specs.Once.{Once, command_of, IsAccepted, IsRefused, read_of};
+ghost use Rattle.notebook_meaning.specs.Once.{Once, command_of, IsAccepted, IsRefused, read_of, usual_budget};
+ghost use Rattle.notebook_meaning.specs.Thin.{IsForm};
+ghost use Rattle.notebook_meaning.specs.Whole.{whole};
 ghost use Rattle.py_tree.specs.Trees.{Cell};
 
 use crate::opening::{Unopened, opening_text};
@@ -49,9 +51,11 @@ fn run_once<F: Files, O: Sink, L: Ledger>(
     out: &mut O,
     steps: &mut Steps<L>,
 ) -> u8
-    ensures { (words : List (List ℕ)) → command_of words ≡ Some (Once file.now)
+    ensures wrote { (words : List (List ℕ)) → command_of words ≡ Some (Once file.now)
         → Wrote (F.holds files.old) (Rose (F.faults files.old) (F.faults files.new)) (Rose (O.faults out.old) (O.faults out.new)) words result
         (O.taken out.old) (O.taken out.new) }
+    ensures steps { result ≡ 0 → (all : List ℕ) (nb : List Cell) → F.holds files.old file.now ≡ Some (Some all)
+        → IsForm (read_of all) nb → steps.new ≡ steps.old + sum (whole nb usual_budget []).costs }
 {
     let bytes = match read_file(alloc, files, file, BYTE_LIMIT) {
         Ok(bytes) => bytes,
@@ -113,6 +117,11 @@ pub fn run_words<F: Files, O: Sink, L: Ledger>(
         → F.holds files.old file ≡ Some (Some all) → IsAccepted (read_of all) nb
         → (Rose (F.faults files.old) (F.faults files.new) → ⊥) → (Rose (O.faults out.old) (O.faults out.new) → ⊥)
         → (result ≡ 0) ⊎ (result ≡ 5) }
+
+    // The steps of an accepted notebook that was opened are counted.
+    ensures steps { result ≡ 0 → (file all : List ℕ) (nb : List Cell) → command_of (map string_bytes words.now) ≡ Some (Once file)
+        → F.holds files.old file ≡ Some (Some all) → IsAccepted (read_of all) nb
+        → steps.new ≡ steps.old + sum (whole nb usual_budget []).costs }
 {
     match once_file(words) {
         Some(file) => run_once(alloc, file, files, out, steps),
