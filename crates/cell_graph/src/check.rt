@@ -1,12 +1,13 @@
 // The check of cells.
 ghost use Rattle.std.specs.Prelude.{◌≡◌, ◌^◌, ◌<◌, IfOk, IfErr, length};
-ghost use Rattle.cell_graph.specs.Kept.{AreDefs, AreRefs};
+ghost use Rattle.cell_graph.specs.Kept.{AreDefs, AreRefs, AreElements};
 ghost use Rattle.cell_graph.specs.Refused.{IsCauseOf};
 ghost use Rattle.notebook_meaning.specs.Graph.{NoneDoubled, NoneCyclic};
 ghost use Rattle.py_tree.specs.View.{view_cells};
 
 use crate::ancestry::all_parents;
 use crate::cell_names::{defs, refs};
+use crate::created::elements;
 use crate::cycles::cyclic_cells;
 use crate::fault::GraphFault;
 use crate::graph::Notebook;
@@ -33,10 +34,12 @@ pub fn notebook(alloc: Global, cells: Vec<CellCode>) -> Result<Notebook, GraphFa
             cells: cyclic_cells(alloc, above.as_slice())?,
         });
     }
+    let created = all_elements(alloc, cells.as_slice())?;
     Ok(Notebook {
         cells,
         defined,
         referenced,
+        created,
         above,
         ordered,
     })
@@ -62,4 +65,15 @@ fn all_refs(alloc: Global, cells: &[CellCode]) -> Result<Vec<Lines>, Memory>
         referenced.push(refs(alloc, cell)?)?;
     }
     Ok(referenced)
+}
+
+// The names of the elements that each cell creates.
+fn all_elements(alloc: Global, cells: &[CellCode]) -> Result<Vec<Lines>, Memory>
+    ensures { IfOk result (λ created. AreElements (view_cells cells.now) created.items) }
+{
+    let mut created = Vec::new(alloc);
+    for cell in cells {
+        created.push(elements(alloc, cell)?)?;
+    }
+    Ok(created)
 }

@@ -15,6 +15,7 @@ pub struct Notebook {
     pub(crate) cells: Vec<CellCode>,
     pub(crate) defined: Vec<Lines>,
     pub(crate) referenced: Vec<Lines>,
+    pub(crate) created: Vec<Lines>,
     pub(crate) above: Vec<CellList>,
     pub(crate) ordered: Vec<u32>,
 }
@@ -25,7 +26,7 @@ impl Model for Notebook {
     ghost use Rattle.py_tree.specs.contracts.tree.Block as block;
     ghost use Rattle.py_tree.specs.declared.tree.CellCode.{CellCode};
     ghost use Rattle.py_tree.specs.View.{view_cells};
-    ghost use Rattle.cell_graph.specs.Kept.{AreDefs, AreRefs, AreParents};
+    ghost use Rattle.cell_graph.specs.Kept.{AreDefs, AreRefs, AreElements, AreParents};
     ghost use Rattle.notebook_meaning.specs.Graph as graph;
 
     ghost Value = { List CellCode };
@@ -36,6 +37,7 @@ impl Model for Notebook {
 
     ghost invariant = { λ nb. (length nb.cells.items < 2 ^ 32) × AreDefs (view_cells nb.cells.items) nb.defined.items
         × AreRefs (view_cells nb.cells.items) nb.referenced.items
+        × AreElements (view_cells nb.cells.items) nb.created.items
         × AreParents (view_cells nb.cells.items) nb.above.items × (nb.ordered.items ≡ graph.order (view_cells nb.cells.items))
         × graph.NoneDoubled (view_cells nb.cells.items) × graph.NoneCyclic (view_cells nb.cells.items) };
 }
@@ -64,6 +66,14 @@ impl Notebook {
         ensures { result.now ≡ graph.refs_of (view_cells self.now) cell }
     {
         &self.referenced[cell as usize]
+    }
+
+    /// The names of the elements that a cell creates.
+    pub fn elements_of(&self, cell: u32) -> &Lines
+        requires { cell < length self.now }
+        ensures { result.now ≡ graph.elements_of (view_cells self.now) cell }
+    {
+        &self.created[cell as usize]
     }
 
     /// The cells that define a name that the cell references, in file order.

@@ -7,6 +7,7 @@ mod cell_list;
 mod cell_names;
 mod check;
 mod children;
+mod created;
 mod cycles;
 mod definers;
 mod fault;
@@ -20,6 +21,7 @@ mod waits;
 pub use cell_list::CellList;
 pub use cell_names::{defs, refs};
 pub use check::notebook;
+pub use created::elements;
 pub use fault::GraphFault;
 pub use graph::Notebook;
 

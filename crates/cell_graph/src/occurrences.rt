@@ -2,12 +2,13 @@
 ghost use Rattle.std.specs.Prelude.{◌≡◌, ◌++◌, ◌∷◌, [], OnOk};
 ghost use Rattle.cell_graph.specs.Borrowed.{texts};
 ghost use Rattle.py_tree.specs.Scope as scope;
-ghost use Rattle.py_tree.specs.View.{view, view_block, view_head};
+ghost use Rattle.py_tree.specs.View.{view, views, view_block, view_head};
 
 use py_tree::{Block, Expr, Line, Spelling};
 use py_value::Memory;
 
 // Adds the names that an expression reads.
+#[cycle(add_reads)]
 fn add_reads<'a>(names: &mut Vec<&'a str>, expr: &'a Expr) -> Result<(), Memory>
     ensures { OnOk result (texts names.new.items ≡ texts names.old.items ++ scope.reads (view expr.now)) }
 {
@@ -18,7 +19,23 @@ fn add_reads<'a>(names: &mut Vec<&'a str>, expr: &'a Expr) -> Result<(), Memory>
             add_reads(names, left.get())?;
             add_reads(names, right.get())
         }
+        Expr::Attribute(base, _) => add_reads(names, base.get()),
+        Expr::Call(callee, arguments) => {
+            add_reads(names, callee.get())?;
+            add_all_reads(names, arguments.items())
+        }
     }
+}
+
+// Adds the names that expressions read.
+#[cycle(add_reads)]
+fn add_all_reads<'a>(names: &mut Vec<&'a str>, exprs: &'a [Expr]) -> Result<(), Memory>
+    ensures { OnOk result (texts names.new.items ≡ texts names.old.items ++ scope.all_reads (views exprs.now)) }
+{
+    for expr in exprs {
+        add_reads(names, expr)?;
+    }
+    Ok(())
 }
 
 // Adds one name.
@@ -36,6 +53,7 @@ fn add_line_reads<'a>(names: &mut Vec<&'a str>, line: &'a Line) -> Result<(), Me
     match line {
         Line::Value(value) => add_reads(names, value),
         Line::Assign(_, value) => add_reads(names, value),
+        Line::ImportMo => Ok(()),
     }
 }
 
@@ -50,6 +68,7 @@ fn add_line_binds<'a>(names: &mut Vec<&'a str>, line: &'a Line) -> Result<(), Me
                 add_name(names, target)?;
             }
         }
+        Line::ImportMo => names.push("mo")?,
     }
     Ok(())
 }

@@ -6,7 +6,11 @@ use Rattle.std.proofs.lemmas.Bool.{and_parts, and_from, eqb-true, both_ways}
 use Rattle.std.proofs.lemmas.List.Sums.{split_at_first, passes_at_first, fails_before_first}
 use Rattle.line_parser.specs.FileReading.{is_unbroken}
 
-unbroken_head : (c : ℕ) (a : List ℕ) → IsTrue (is_unbroken (c ∷ a)) → c ≡ 10 → ⊥
+-- no line holds a `\n`
+abbrev pub are_unbroken : List (List ℕ) → Bool
+are_unbroken = list_all is_unbroken
+
+pub unbroken_head : (c : ℕ) (a : List ℕ) → IsTrue (is_unbroken (c ∷ a)) → c ≡ 10 → ⊥
 unbroken_head c a p e = grind (arith, common_steps)
 
 -- a front with no `\n` before a `\n` is the only one

@@ -1,7 +1,7 @@
 -- Words joined by spaces, and cut apart again.
-use Rattle.std.proofs.Common.{◌≡◌, ℕ, zero, suc, ◌<◌, Bool, true, false, not, ◌&&◌, eqb, ltb, List, [], ◌∷◌, length, refl, ap, ◌∙◌, arith}
-use Rattle.std.proofs.lemmas.Bool.{and_parts, not-true, ltb-true}
-use Rattle.std.proofs.lemmas.List.Splits.{slice_split_at, slice_split_first, slice_split_none}
+use Rattle.std.proofs.Common.{◌≡◌, ℕ, zero, suc, ◌<◌, Bool, true, false, ◌&&◌, eqb, ltb, List, [], ◌∷◌, length, refl, ap, ◌∙◌, arith}
+use Rattle.std.proofs.lemmas.Bool.{and_parts, ne_eqb, ltb-true}
+use Rattle.std.proofs.lemmas.List.Splits.{slice_split_at, slice_split_first, slice_split_none, length-slice_split}
 use Rattle.std.proofs.lemmas.List.Sums.{fails_before_first}
 use Rattle.std.proofs.lemmas.Str.{IsAscii-append}
 use Rattle.std.proofs.lemmas.Str.Ascii.{IsAscii-nil, IsAscii-cons}
@@ -17,9 +17,12 @@ words_first text word rest h = rw (h.1, h.2) (slice_split_first (λ b. eqb b 32)
 pub words_none : (text : List ℕ) → position_or_len (λ b. eqb b 32) text ≡ length text → words text ≡ text ∷ []
 words_none text e = slice_split_none (λ b. eqb b 32) text (λ k d l. fails_before_first (λ b. eqb b 32) text k d (omega arith))
 
--- a byte that may stand in a word: ASCII, and no space
+pub some_word : (text : List ℕ) → 0 < length (words text)
+some_word text = omega (arith, length-slice_split (λ b. eqb b 32) text)
+
+-- a byte that may stand in a word: ASCII, and past the space and the marks of lines
 abbrev pub is_word_byte : ℕ → Bool
-is_word_byte b = not (eqb b 32) && ltb b 128
+is_word_byte b = ltb 32 b && ltb b 128
 
 pub list_all-weaker : (p q : ℕ → Bool) → ((b : ℕ) → p b ≡ true → q b ≡ true) → (bs : List ℕ) → list_all p bs ≡ true → list_all q bs ≡ true
 list_all-weaker p q f [] h = refl
@@ -27,7 +30,7 @@ list_all-weaker p q f (b ∷ bs) h = let s = and_parts _ _ h in rw (f b s.0) (li
 
 no_space : (bs : List ℕ) → list_all is_word_byte bs ≡ true → All (λ b. eqb b 32 ≡ false) bs
 no_space [] h k d l = absurd (omega arith)
-no_space (b ∷ bs) h zero d l = not-true _ (and_parts _ _ (and_parts _ _ h).0).0
+no_space (b ∷ bs) h zero d l = let past = ltb-true 32 b (and_parts _ _ (and_parts _ _ h).0).0 in ne_eqb b 32 (λ e. omega arith)
 no_space (b ∷ bs) h (suc k) d l = no_space bs (and_parts _ _ h).1 k d (omega arith)
 
 ascii : (bs : List ℕ) → list_all is_word_byte bs ≡ true → IsAscii bs

@@ -1,85 +1,70 @@
--- The spellings of the tokens of sums and lines.
-use Rattle.std.proofs.Common.{◌≡◌, ℕ, ◌<◌, true, ◌||◌, eqb, List, [], ◌∷◌, ◌++◌, length, map, refl, append_assoc, arith}
+-- The words of trees and lines.
+use Rattle.std.proofs.Common.{◌≡◌, ℕ, ◌<◌, List, [], ◌∷◌, ◌++◌, length, refl, sym, ap, ◌∙◌, append_assoc, length-append, arith}
 use Rattle.std.specs.Prelude.{codes}
-use Rattle.std.specs.List.{list_all}
-use Rattle.std.proofs.lemmas.Bool.{and_parts, and_from}
-use Rattle.std.proofs.lemmas.Bool.Decides.{nat_tests}
-use Rattle.std.proofs.lemmas.List.{map-append, length-append}
-use Rattle.std.proofs.lemmas.List.Folds.{list_all-append}
-use Rattle.notebook_meaning.specs.Thin.{is_name, is_plain_name, is_term, is_chain}
-use Rattle.py_tree.specs.Levels.{is_literal}
-use Rattle.py_tree.specs.Names.{is_digit, is_lower}
-use Rattle.py_tree.specs.Numbers.{is_number}
-use Rattle.py_tree.specs.Tokens.{tokens, head_tokens}
-use Rattle.py_tree.specs.Trees.{Tree, literal, name, sum, Head}
-use Rattle.py_tree.specs.declared.token.Token.{Token}
-use Rattle.py_tree.specs.declared.token.TokenKind.{TokenKind}
-use Rattle.py_tree.specs.declared.token.TokenKind.TheVariants as kind
-use Rattle.line_parser.proofs.Cuts.{is_word_byte, AreWords, list_all-weaker}
+use Rattle.std.specs.List.{join_with_byte}
+use Rattle.notebook_meaning.specs.Thin.{tree_text, names_text, head_text}
+use Rattle.py_tree.specs.Trees.{Tree, literal, name, sum, attribute, call, Trees, none, more, Head, value, assign, import_mo}
+
+-- the words of a call, of which one with two arguments has two
+abbrev pub call_words : Tree → Trees → List (List ℕ)
+call_words f none = tree_text (call f none) ∷ []
+call_words f (more a none) = tree_text (call f (more a none)) ∷ []
+call_words f (more a (more b none)) = (tree_text f ++ codes "(" ++ tree_text a ++ codes ",") ∷ (tree_text b ++ codes ")") ∷ []
+call_words f (more a (more b (more c rest))) = tree_text (call f (more a (more b (more c rest)))) ∷ []
 
 abbrev pub spellings : Tree → List (List ℕ)
-spellings t = map (λ (token : Token). token.spelling) (tokens t)
+spellings (literal token) = token.spelling ∷ []
+spellings (name x) = x ∷ []
+spellings (sum a b) = spellings a ++ (codes "+" ∷ tree_text b ∷ [])
+spellings (attribute base x) = tree_text (attribute base x) ∷ []
+spellings (call f args) = call_words f args
 
 abbrev pub head_spellings : Head → List (List ℕ)
-head_spellings h = map (λ (token : Token). token.spelling) (head_tokens h)
+head_spellings (value t) = spellings t
+head_spellings (assign targets t) = names_text targets ∷ codes "=" ∷ spellings t
+head_spellings import_mo = codes "import" ∷ codes "marimo" ∷ codes "as" ∷ codes "mo" ∷ []
 
--- the spelling of a term
-abbrev pub word_of : Tree → List ℕ
-word_of (literal token) = token.spelling
-word_of (name x) = x
-word_of (sum a b) = []
-
-pub spellings-sum : (a b : Tree) → spellings (sum a b) ≡ spellings a ++ (codes "+" ∷ spellings b)
-spellings-sum a b = simp (map-append, append_assoc)
-
-pub term_is_chain : (t : Tree) → is_term t ≡ true → is_chain t ≡ true
-term_is_chain (literal token) h = h
-term_is_chain (name x) h = h
-term_is_chain (sum a b) h = absurd (cc)
-
-pub spellings-term : (t : Tree) → is_term t ≡ true → spellings t ≡ word_of t ∷ []
-spellings-term (literal token) h = refl
-spellings-term (name x) h = refl
-spellings-term (sum a b) h = absurd (cc)
-
--- a sum, and what follows it
-pub spellings-more : (a b : Tree) (rest : List (List ℕ)) → is_term b ≡ true → spellings (sum a b) ++ rest ≡ spellings a ++ (codes "+" ∷ word_of b ∷ rest)
-spellings-more a b rest h = rw (spellings-sum a b, spellings-term b h) (append_assoc (spellings a) (codes "+" ∷ word_of b ∷ []) rest)
-
-lower_is_word : (b : ℕ) → is_lower b ≡ true → is_word_byte b ≡ true
-lower_is_word b h = grind (arith, nat_tests)
-
-digit_is_word : (b : ℕ) → is_digit b ≡ true → is_word_byte b ≡ true
-digit_is_word b h = grind (arith, nat_tests)
-
-later_is_word : (b : ℕ) → (is_lower b || is_digit b || eqb b 95) ≡ true → is_word_byte b ≡ true
-later_is_word b h = grind (arith, nat_tests)
-
-name_bytes : (x : List ℕ) → is_plain_name x ≡ true → list_all is_word_byte x ≡ true
-name_bytes [] h = absurd (cc)
-name_bytes (c ∷ cs) h = let s = and_parts _ _ h in and_from _ _ (lower_is_word c s.0) (list_all-weaker _ is_word_byte later_is_word cs s.1)
-
-number_bytes : (w : List ℕ) → is_number w ≡ true → list_all is_word_byte w ≡ true
-number_bytes [] h = absurd (cc)
-number_bytes (c ∷ []) h = and_from _ _ (digit_is_word c h) refl
-number_bytes (c ∷ d ∷ ds) h = list_all-weaker is_digit is_word_byte digit_is_word (c ∷ d ∷ ds) (and_parts _ _ (and_parts _ _ h).0).0
-
-literal_bytes : (k : TokenKind) (w : List ℕ) → is_literal k w ≡ true → list_all is_word_byte w ≡ true
-literal_bytes kind.Name w h = absurd (cc)
-literal_bytes kind.Number w h = number_bytes w h
-literal_bytes kind.Mark w h = absurd (cc)
-
-pub name_is_word : (x : List ℕ) → is_name x ≡ true → list_all is_word_byte x ≡ true
-name_is_word x h = name_bytes x (and_parts _ _ h).0
-
-pub tree_words : (t : Tree) → is_chain t ≡ true → AreWords (spellings t)
-tree_words (literal token) h = and_from _ _ (literal_bytes token.kind token.spelling h) refl
-tree_words (name x) h = and_from _ _ (name_is_word x h) refl
-tree_words (sum a b) h =
-    let s = and_parts _ _ h in
-    rw (spellings-sum a b, list_all-append) (and_from _ _ (tree_words a s.0) (tree_words b (term_is_chain b s.1)))
+some_call_words : (f : Tree) (args : Trees) → 0 < length (call_words f args)
+some_call_words f none = omega arith
+some_call_words f (more a none) = omega arith
+some_call_words f (more a (more b none)) = omega arith
+some_call_words f (more a (more b (more c rest))) = omega arith
 
 pub some_words : (t : Tree) → 0 < length (spellings t)
 some_words (literal token) = omega arith
 some_words (name x) = omega arith
-some_words (sum a b) = rw (spellings-sum a b, length-append) (omega arith)
+some_words (sum a b) = rw length-append (omega arith)
+some_words (attribute base x) = omega arith
+some_words (call f args) = some_call_words f args
+
+-- words with one term more
+join_term : (ws : List (List ℕ)) (v : List ℕ) → 0 < length ws → join_with_byte 32 (ws ++ (codes "+" ∷ v ∷ [])) ≡ join_with_byte 32 ws ++ codes " + " ++ v
+join_term [] v l = absurd (omega arith)
+join_term (w ∷ []) v l = sym (append_assoc w (codes " + ") v)
+join_term (w ∷ u ∷ us) v l =
+    ap (λ t. w ++ 32 ∷ t) (join_term (u ∷ us) v (omega arith)) ∙ simp append_assoc
+
+-- words behind a `=`
+pub join_assigned : (x : List ℕ) (ws : List (List ℕ)) → 0 < length ws → join_with_byte 32 (x ∷ codes "=" ∷ ws) ≡ x ++ codes " = " ++ join_with_byte 32 ws
+join_assigned x [] l = absurd (omega arith)
+join_assigned x (w ∷ ws) l = sym (append_assoc x (codes " = ") (join_with_byte 32 (w ∷ ws)))
+
+call_joined : (f : Tree) (args : Trees) → join_with_byte 32 (call_words f args) ≡ tree_text (call f args)
+call_joined f none = refl
+call_joined f (more a none) = refl
+call_joined f (more a (more b none)) = simp append_assoc
+call_joined f (more a (more b (more c rest))) = refl
+
+-- the words with one space between them are the text
+pub tree_joined : (t : Tree) → join_with_byte 32 (spellings t) ≡ tree_text t
+tree_joined (literal token) = refl
+tree_joined (name x) = refl
+tree_joined (sum a b) = join_term (spellings a) (tree_text b) (some_words a) ∙ ap (λ t. t ++ codes " + " ++ tree_text b) (tree_joined a)
+tree_joined (attribute base x) = refl
+tree_joined (call f args) = call_joined f args
+
+pub head_joined : (h : Head) → join_with_byte 32 (head_spellings h) ≡ head_text h
+head_joined (value t) = tree_joined t
+head_joined (assign targets t) =
+    join_assigned (names_text targets) (spellings t) (some_words t) ∙ ap (λ s. names_text targets ++ codes " = " ++ s) (tree_joined t)
+head_joined import_mo = refl

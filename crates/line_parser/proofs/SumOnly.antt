@@ -1,25 +1,29 @@
--- Each line of the form is what is read from its words.
-use Rattle.std.proofs.Common.{◌≡◌, ℕ, ◌<◌, ◌≤◌, true, false, List, [], ◌∷◌, ◌++◌, length, Option, None, Some, refl, sym, ap, ◌∙◌, subst, append-nil, arith}
+-- Each sum is what is read from its words.
+use Rattle.std.proofs.Common.{◌≡◌, ℕ, ◌<◌, ◌≤◌, Bool, true, false, List, [], ◌∷◌, ◌++◌, None, Some, append_assoc, refl, sym, ap, ◌∙◌, append-nil, arith}
 use Rattle.std.specs.Prelude.{codes}
-use Rattle.std.specs.Str.{IsUtf8}
-use Rattle.std.proofs.lemmas.Bool.{and_parts, and_from, leb-true, lt-ltb}
+use Rattle.std.specs.List.{list_all}
+use Rattle.std.proofs.lemmas.Bool.{and_parts, and_left, and_right, not-true, leb-true, lt-ltb}
 use Rattle.std.proofs.lemmas.Bool.Decides.{nat_tests}
-use Rattle.std.proofs.lemmas.Str.{IsUtf8-from_ascii}
-use Rattle.notebook_meaning.specs.Thin.{is_name, is_term, is_chain, is_sum, is_line, terms}
+use Rattle.line_parser.specs.Plain.{is_name_byte}
+use Rattle.line_parser.specs.Sums.{value_of, read_term, read_more, read_sum}
+use Rattle.line_parser.specs.Words.{target}
+use Rattle.notebook_meaning.specs.Thin.{Elements, is_name, is_plain_name, is_term, is_chain, is_sum, terms, tree_text}
 use Rattle.py_tree.specs.Levels.{is_literal}
-use Rattle.py_tree.specs.Names.{is_digit, is_lower}
+use Rattle.py_tree.specs.Names.{Name, is_digit, is_lower}
 use Rattle.py_tree.specs.Numbers.{is_number}
-use Rattle.py_tree.specs.Tokens.{spaced, head_tokens}
-use Rattle.py_tree.specs.Trees.{Tree, literal, name, sum, Head, value, assign}
+use Rattle.py_tree.specs.Trees.{Tree, literal, name, sum, attribute, call}
 use Rattle.py_tree.specs.declared.token.TokenKind.{TokenKind}
 use Rattle.py_tree.specs.declared.token.TokenKind.TheVariants as kind
-use Rattle.line_parser.specs.Words.{words}
-use Rattle.line_parser.specs.Sums.{read_term, read_more, read_sum, target, read_line}
-use Rattle.line_parser.proofs.Cuts.{AreWords, words-join, join_ascii}
-use Rattle.line_parser.proofs.Spellings.{spellings, head_spellings, word_of, spellings-sum, spellings-more, name_is_word, tree_words, some_words}
+use Rattle.line_parser.proofs.Ends.{back_off}
+use Rattle.line_parser.proofs.Forms.{value_form}
+use Rattle.line_parser.proofs.Spellings.{spellings}
+use Rattle.line_parser.proofs.SumFound.{spellings-more}
 
 digit_not_lower : (b : ℕ) → is_digit b ≡ true → is_lower b ≡ false
 digit_not_lower b h = grind (arith, nat_tests)
+
+lower_not_digit : (b : ℕ) → is_lower b ≡ true → is_digit b ≡ false
+lower_not_digit b h = grind (arith, nat_tests)
 
 -- a number is no name
 number_not_name : (w : List ℕ) → is_number w ≡ true → is_name w ≡ false
@@ -27,82 +31,80 @@ number_not_name [] h = absurd (cc)
 number_not_name (c ∷ []) h = rw (digit_not_lower c h) refl
 number_not_name (c ∷ d ∷ ds) h = rw (digit_not_lower c (and_parts _ _ (and_parts _ _ (and_parts _ _ h).0).0).0) refl
 
-literal_read : (k : TokenKind) (w : List ℕ) → is_literal k w ≡ true → read_term w ≡ Some (literal (record { kind = k; spelling = w }))
-literal_read kind.Name w h = absurd (cc)
-literal_read kind.Number w h = rw (number_not_name w h, h) refl
-literal_read kind.Mark w h = absurd (cc)
+-- nor is a text with a dot
+dotted : (q : ℕ → Bool) → q 46 ≡ false → (cs : List ℕ) → list_all q (cs ++ codes ".value") ≡ false
+dotted q h [] = rw h refl
+dotted q h (c ∷ cs) = and_right (q c) _ (dotted q h cs)
 
-term_read : (t : Tree) → is_term t ≡ true → read_term (word_of t) ≡ Some t
-term_read (literal token) h = literal_read token.kind token.spelling h
-term_read (name x) h = rw h refl
-term_read (sum a b) h = absurd (cc)
+value_not_name : (x : Name) → is_name (x ++ codes ".value") ≡ false
+value_not_name [] = refl
+value_not_name (c ∷ cs) = and_left _ _ (and_right (is_lower c) _ (dotted is_name_byte refl cs))
+
+-- nor is it a number
+value_not_number : (x : Name) → is_plain_name x ≡ true → is_number (x ++ codes ".value") ≡ false
+value_not_number [] h = absurd (cc)
+value_not_number (c ∷ []) h = rw (lower_not_digit c (and_parts _ _ h).0) refl
+value_not_number (c ∷ d ∷ ds) h = rw (lower_not_digit c (and_parts _ _ h).0) refl
+
+literal_read : (es : Elements) (k : TokenKind) (w : List ℕ) → is_literal k w ≡ true → read_term es w ≡ Some (literal (record { kind = k; spelling = w }))
+literal_read es kind.Name w h = absurd (cc)
+literal_read es kind.Number w h = rw (number_not_name w h, h) refl
+literal_read es kind.Mark w h = absurd (cc)
+
+value_read : (es : Elements) (x : Name) → is_name x ≡ true → es.is_slider x ≡ true → read_term es (x ++ codes ".value") ≡ Some (value_of x)
+value_read es x n s =
+    rw (value_not_name x, value_not_number x (and_parts _ _ n).0, back_off (codes ".value") x, n, s) refl
+
+term_read : (es : Elements) (t : Tree) → is_term es t ≡ true → read_term es (tree_text t) ≡ Some t
+term_read es (literal token) h = literal_read es token.kind token.spelling h
+term_read es (name x) h =
+    let s = and_parts (is_name x) _ h in
+    rw (s.0, not-true _ s.1) refl
+term_read es (sum a b) h = absurd (cc)
+term_read es (attribute base x) h =
+    let v = value_form es base x h in
+    let text : tree_text (attribute base x) ≡ v.slider ++ codes ".value" = ap tree_text v.is ∙ append_assoc v.slider (codes ".") (codes "value") in
+    ap (read_term es) text ∙ (value_read es v.slider v.named v.known ∙ ap Some (sym v.is))
+term_read es (call f args) h = absurd (cc)
 
 -- one more term
-more_read : (t u : Tree) (word : List ℕ) (rest : List (List ℕ)) → terms t < 32 → read_term word ≡ Some u → read_more t (codes "+" ∷ word ∷ rest) ≡ read_more (sum t u) rest
-more_read t u word rest n e = rw (lt-ltb (terms t) 32 n, e) refl
+more_read : (es : Elements) (t u : Tree) (word : List ℕ) (rest : List (List ℕ)) → terms t < 32 → read_term es word ≡ Some u → read_more es t (codes "+" ∷ word ∷ rest) ≡ read_more es (sum t u) rest
+more_read es t u word rest n e = rw (lt-ltb (terms t) 32 n, e) refl
+
+first_read : (es : Elements) (t : Tree) (rest : List (List ℕ)) → is_term es t ≡ true → read_sum es (tree_text t ∷ rest) ≡ read_more es t rest
+first_read es t rest h = rw (term_read es t h) refl
 
 -- reading a chain comes to what follows it
-chain_read : (t : Tree) (rest : List (List ℕ)) → is_chain t ≡ true → terms t ≤ 32 → read_sum (spellings t ++ rest) ≡ read_more t rest
-chain_read (literal token) rest c n = rw (term_read (literal token) c) refl
-chain_read (name x) rest c n = rw (term_read (name x) c) refl
-chain_read (sum a b) rest c n =
+chain_read : (es : Elements) (t : Tree) (rest : List (List ℕ)) → is_chain es t ≡ true → terms t ≤ 32 → read_sum es (spellings t ++ rest) ≡ read_more es t rest
+chain_read es (literal token) rest c n = first_read es (literal token) rest c
+chain_read es (name x) rest c n = first_read es (name x) rest c
+chain_read es (sum a b) rest c n =
     let s = and_parts _ _ c in
-    ap read_sum (spellings-more a b rest s.1) ∙ (chain_read a (codes "+" ∷ word_of b ∷ rest) s.0 (omega arith) ∙ more_read a b (word_of b) rest (omega arith) (term_read b s.1))
+    ap (read_sum es) (spellings-more a b rest)
+    ∙ (chain_read es a (codes "+" ∷ tree_text b ∷ rest) s.0 (omega arith) ∙ more_read es a b (tree_text b) rest (omega arith) (term_read es b s.1))
+chain_read es (attribute base x) rest c n = first_read es (attribute base x) rest c
+chain_read es (call f args) rest c n = absurd (cc)
 
-sum_read : (t : Tree) → is_sum t ≡ true → read_sum (spellings t) ≡ Some t
-sum_read t h =
+pub sum_read : (es : Elements) (t : Tree) → is_sum es t ≡ true → read_sum es (spellings t) ≡ Some t
+sum_read es t h =
     let s = and_parts _ _ h in
-    ap read_sum (sym (append-nil (spellings t))) ∙ chain_read t [] s.0 (leb-true _ _ s.1)
-
--- the words after a `=`
-pub target-assign : (x : List ℕ) (rest : List (List ℕ)) → 0 < length rest → ◌≡◌ {A = Option (List ℕ × List (List ℕ))} (target (x ∷ codes "=" ∷ rest)) (Some (x, rest))
-target-assign x [] l = absurd (omega arith)
-target-assign x (next ∷ rest) l = refl
+    ap (read_sum es) (sym (append-nil (spellings t))) ∙ chain_read es t [] s.0 (leb-true _ _ s.1)
 
 -- a chain with a `+` behind it is no assignment
-no_target : (t : Tree) (rest : List (List ℕ)) → is_chain t ≡ true → target (spellings t ++ (codes "+" ∷ rest)) ≡ None
-no_target (literal token) [] c = refl
-no_target (literal token) (next ∷ rest) c = refl
-no_target (name x) [] c = refl
-no_target (name x) (next ∷ rest) c = refl
-no_target (sum a b) rest c =
-    let s = and_parts _ _ c in
-    ap target (spellings-more a b (codes "+" ∷ rest) s.1) ∙ no_target a (word_of b ∷ codes "+" ∷ rest) s.0
+no_target : (es : Elements) (t : Tree) (rest : List (List ℕ)) → is_chain es t ≡ true → target (spellings t ++ (codes "+" ∷ rest)) ≡ None
+no_target es (literal token) [] c = refl
+no_target es (literal token) (next ∷ rest) c = refl
+no_target es (name x) [] c = refl
+no_target es (name x) (next ∷ rest) c = refl
+no_target es (sum a b) rest c =
+    ap target (spellings-more a b (codes "+" ∷ rest)) ∙ no_target es a (tree_text b ∷ codes "+" ∷ rest) (and_parts _ _ c).0
+no_target es (attribute base x) [] c = refl
+no_target es (attribute base x) (next ∷ rest) c = refl
+no_target es (call f args) rest c = absurd (cc)
 
-sum_no_target : (t : Tree) → is_chain t ≡ true → target (spellings t) ≡ None
-sum_no_target (literal token) c = refl
-sum_no_target (name x) c = refl
-sum_no_target (sum a b) c =
-    let s = and_parts _ _ c in
-    ap target (spellings-sum a b) ∙ no_target a (spellings b) s.0
-
-line_read : (h : Head) → is_line h ≡ true → read_line (head_spellings h) ≡ Some h
-line_read (value t) e =
-    let s = and_parts (is_chain t) _ e in
-    rw (sum_no_target t s.0, sum_read t e) refl
-line_read (assign [] t) e = absurd (cc)
-line_read (assign (x ∷ []) t) e =
-    let s = and_parts (is_name x) (is_sum t) e in
-    rw (target-assign x (spellings t) (some_words t), s.0, sum_read t s.1) refl
-line_read (assign (x ∷ y ∷ xs) t) e = absurd (cc)
-
-line_words : (h : Head) → is_line h ≡ true → AreWords (head_spellings h)
-line_words (value t) e = tree_words t (and_parts _ _ e).0
-line_words (assign [] t) e = absurd (cc)
-line_words (assign (x ∷ []) t) e =
-    let s = and_parts _ _ e in
-    and_from _ _ (name_is_word x s.0) (tree_words t (and_parts _ _ s.1).0)
-line_words (assign (x ∷ y ∷ xs) t) e = absurd (cc)
-
-some_line_words : (h : Head) → is_line h ≡ true → 0 < length (head_spellings h)
-some_line_words (value t) e = some_words t
-some_line_words (assign [] t) e = absurd (cc)
-some_line_words (assign (x ∷ []) t) e = omega arith
-some_line_words (assign (x ∷ y ∷ xs) t) e = absurd (cc)
-
-pub line_only : (text : List ℕ) (h : Head) → is_line h ≡ true → text ≡ spaced (head_tokens h) → read_line (words text) ≡ Some h
-line_only text h e s =
-    ap (λ t. read_line (words t)) s ∙ (ap read_line (words-join (head_spellings h) (some_line_words h e) (line_words h e)) ∙ line_read h e)
-
-pub line_is_text : (text : List ℕ) (h : Head) → is_line h ≡ true → text ≡ spaced (head_tokens h) → IsUtf8 text
-line_is_text text h e s = subst IsUtf8 (sym s) (IsUtf8-from_ascii _ (join_ascii (head_spellings h) (line_words h e)))
+pub sum_no_target : (es : Elements) (t : Tree) → is_chain es t ≡ true → target (spellings t) ≡ None
+sum_no_target es (literal token) c = refl
+sum_no_target es (name x) c = refl
+sum_no_target es (sum a b) c = no_target es a (tree_text b ∷ []) (and_parts _ _ c).0
+sum_no_target es (attribute base x) c = refl
+sum_no_target es (call f args) c = absurd (cc)

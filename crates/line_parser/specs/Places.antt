@@ -1,15 +1,15 @@
 -- A file of the thin form as its lines go by.
-use Rattle.std.specs.Prelude.{◌≡◌, ◌⊎◌, ℕ, ◌+◌, ◌≤◌, IsTrue, List, [], ◌∷◌, ◌++◌, length, codes}
+use Rattle.std.specs.Prelude.{◌≡◌, ◌⊎◌, ℕ, ◌+◌, ◌≤◌, not, cond, IsTrue, List, [], ◌∷◌, ◌++◌, length}
 use Rattle.std.specs.List.{count_by}
-use Rattle.notebook_meaning.specs.Fails.{last_line, is_body_line}
-use Rattle.notebook_meaning.specs.Thin.{is_line, line_text, text_of}
-use Rattle.py_tree.specs.Trees.{Head}
-use Rattle.line_parser.specs.FileReading.{At}
+use Rattle.notebook_meaning.specs.Fails.{is_body_line, IsAlone}
+use Rattle.notebook_meaning.specs.Thin.{Elements, is_line, stands_alone, line_text, import_line, app_line, decorator_line, definition_line, main_line, last_line, text_of}
+use Rattle.py_tree.specs.Trees.{Head, stmt, Stmts, end, then_comes}
+use Rattle.line_parser.specs.FileReading.{At, IsIndented}
 use Rattle.line_parser.specs.declared.thin_file.ThinFault.{ThinFault}
 use Rattle.line_parser.specs.declared.thin_file.ThinFault.TheVariants.{Thin, Memory}
 
--- which line comes next: the first, the second, one after the header or a cell, one after a decorator, the first of a body, one
--- after a body line, the last, or none
+-- which line comes next: the first, the second, one after the header, one after a decorator, the first of a body, one after a body
+-- line, one after a line that is a whole body, the last, or none
 pub data Place : Type 0 where
   First : Place
   Second : Place
@@ -17,6 +17,7 @@ pub data Place : Type 0 where
   Definition : Place
   Body : Place
   AfterBody : Place
+  AfterAlone : Place
   Last : Place
   Past : Place
 
@@ -25,46 +26,72 @@ abbrev pub IsNoNext : (List ℕ → Type 0) → List ℕ → Type 0
 IsNoNext P bytes = (next after : List ℕ) → bytes ≡ text_of (next ∷ []) ++ after → P next → ⊥
 
 -- the line is that of a body
-abbrev pub IsBody : List ℕ → Type 0
-IsBody line = (head : Head) × IsTrue (is_line head) × (line ≡ line_text head)
+abbrev pub IsBody : Elements → List ℕ → Type 0
+IsBody es line = (head : Head) × IsTrue (is_line es head) × (line ≡ line_text head)
 
--- The lines that fit at a place, and the place after each.
-pub data Fits : Place → List ℕ → Place → Type 0 where
-  first : (line : List ℕ) → line ≡ codes "import marimo" → Fits First line Second
-  second : (line : List ℕ) → line ≡ codes "app = marimo.App()" → Fits Second line Between
-  decorator : (line : List ℕ) → line ≡ codes "@app.cell" → Fits Between line Definition
-  main : (line : List ℕ) → line ≡ codes "if __name__ == \"__main__\":" → Fits Between line Last
-  definition : (line : List ℕ) → line ≡ codes "def _():" → Fits Definition line Body
-  body : (line : List ℕ) → IsBody line → Fits Body line AfterBody
-  next_body : (line : List ℕ) → IsBody line → Fits AfterBody line AfterBody
-  next_decorator : (line : List ℕ) → line ≡ codes "@app.cell" → Fits AfterBody line Definition
-  next_main : (line : List ℕ) → line ≡ codes "if __name__ == \"__main__\":" → Fits AfterBody line Last
-  last : (line : List ℕ) → line ≡ last_line → Fits Last line Past
+-- the line is that of a body which may have more lines
+abbrev pub IsShared : Elements → List ℕ → Type 0
+IsShared es line = (head : Head) × IsTrue (is_line es head) × IsTrue (not (stands_alone head)) × (line ≡ line_text head)
+
+-- The lines that fit at a place of a file of these elements, and the place after each.
+pub data Fits (es : Elements) : Place → List ℕ → Place → Type 0 where
+  first : (line : List ℕ) → line ≡ import_line → Fits es First line Second
+  second : (line : List ℕ) → line ≡ app_line → Fits es Second line Between
+  decorator : (line : List ℕ) → line ≡ decorator_line → Fits es Between line Definition
+  main : (line : List ℕ) → line ≡ main_line → Fits es Between line Last
+  definition : (line : List ℕ) → line ≡ definition_line → Fits es Definition line Body
+  body : (line : List ℕ) → IsShared es line → Fits es Body line AfterBody
+  next_body : (line : List ℕ) → IsShared es line → Fits es AfterBody line AfterBody
+  next_decorator : (line : List ℕ) → line ≡ decorator_line → Fits es AfterBody line Definition
+  next_main : (line : List ℕ) → line ≡ main_line → Fits es AfterBody line Last
+  alone : (line : List ℕ) → IsAlone es line → Fits es Body line AfterAlone
+  decorator_behind : (line : List ℕ) → line ≡ decorator_line → Fits es AfterAlone line Definition
+  main_behind : (line : List ℕ) → line ≡ main_line → Fits es AfterAlone line Last
+  last : (line : List ℕ) → line ≡ last_line → Fits es Last line Past
 
 -- Lines that fit one after the other lead from one place to another.
-pub data Leads : Place → List (List ℕ) → Place → Type 0 where
-  none : (p : Place) → Leads p [] p
-  then_fits : (p q r : Place) (line : List ℕ) (lines : List (List ℕ)) → Fits p line q → Leads q lines r → Leads p (line ∷ lines) r
+pub data Leads (es : Elements) : Place → List (List ℕ) → Place → Type 0 where
+  none : (p : Place) → Leads es p [] p
+  then_fits : (p q r : Place) (line : List ℕ) (lines : List (List ℕ)) → Fits es p line q → Leads es q lines r
+      → Leads es p (line ∷ lines) r
 
--- Lines lead past cells; no further cell comes, and after a body no further line of it.
-abbrev pub LeadsPastCells : List (List ℕ) → List ℕ → Type 0
-LeadsPastCells lines bytes =
-    (Leads Between lines Between ⊎ (Leads Between lines AfterBody × IsNoNext IsBody bytes)) × IsNoNext (λ line. line ≡ codes "@app.cell") bytes
+-- no indented line, whole or not, comes after one that stands alone
+abbrev pub IsApart : Place → List ℕ → Type 0
+IsApart at bytes = at ≡ AfterAlone → IsIndented bytes → ⊥
 
--- Reading from a place of the file stops at a line: those before it lead to a place at which it doesn't fit, or it is a body line
--- for which there is no room.
-pub record IsStuck (before : At) (from : Place) (line : ℕ) : Type 0 where
+-- A cell may begin at the place, or the last lines, and no other line that fits there comes.
+pub record IsBetween (es : Elements) (at : Place) (bytes : List ℕ) : Type 0 where
+  pub cell : Fits es at decorator_line Definition
+  pub close : Fits es at main_line Last
+  pub apart : IsApart at bytes
+  pub over : (next after : List ℕ) (to : Place) → bytes ≡ text_of (next ∷ []) ++ after → Fits es at next to
+      → (next ≡ decorator_line) ⊎ (next ≡ main_line)
+
+-- the place after the lines of a body
+abbrev pub place_after : Stmts → Place
+place_after end = Body
+place_after (then_comes (stmt n head block) rest) = cond (stands_alone head) AfterAlone AfterBody
+
+-- Lines lead past cells, and no further cell comes.
+abbrev pub LeadsPastCells : Elements → List (List ℕ) → List ℕ → Type 0
+LeadsPastCells es lines bytes =
+    (at : Place) × Leads es Between lines at × IsBetween es at bytes × IsNoNext (λ line. line ≡ decorator_line) bytes
+
+-- Reading from a place of the file stops at a line. Those before it lead to a place, and there no whole line comes, or none that
+-- fits: save a body line for which there is no room, and one that stands alone and that an indented line follows.
+pub record IsStuck (es : Elements) (before : At) (from : Place) (line : ℕ) : Type 0 where
   pub lines : List (List ℕ)
   pub at : Place
   pub rest : List ℕ
-  pub leads : Leads from lines at
+  pub leads : Leads es from lines at
   pub bytes : before.bytes ≡ text_of lines ++ rest
   pub number : line ≡ before.line + length lines
   pub few : count_by is_body_line lines ≤ before.room
-  pub stuck : (next after : List ℕ) (to : Place) → rest ≡ text_of (next ∷ []) ++ after → Fits at next to
-      → IsBody next × (count_by is_body_line lines ≡ before.room)
+  pub apart : IsApart at rest
+  pub stuck : (next after : List ℕ) (to : Place) → rest ≡ text_of (next ∷ []) ++ after → Fits es at next to
+      → (IsBody es next × (count_by is_body_line lines ≡ before.room)) ⊎ ((to ≡ AfterAlone) × IsIndented after)
 
 -- Reading from a place of the file stops at the line that is named. Want of memory has no place here.
-abbrev pub StopsAt : At → Place → ThinFault → Type 0
-StopsAt before from (Thin line) = IsStuck before from line
-StopsAt before from Memory = Unit {0}
+abbrev pub StopsAt : Elements → At → Place → ThinFault → Type 0
+StopsAt es before from (Thin line) = IsStuck es before from line
+StopsAt es before from Memory = Unit {0}

@@ -1,21 +1,28 @@
--- What the words of a line spell, by reading from the left.
-use Rattle.std.specs.Prelude.{ℕ, cond, ◌&&◌, nat_lt, List, [], ◌∷◌, Option, None, Some, option_map, codes}
+-- The sum that words spell, by reading from the left.
+use Rattle.std.specs.Prelude.{ℕ, cond, ◌&&◌, nat_lt, List, [], ◌∷◌, Option, None, Some, codes}
 use Rattle.std.specs.Str.{bytes_eq}
-use Rattle.notebook_meaning.specs.Thin.{is_name, terms}
+use Rattle.line_parser.specs.Choices.{◌>>=◌}
+use Rattle.line_parser.specs.Words.{without_back}
+use Rattle.notebook_meaning.specs.Thin.{Elements, is_name, terms}
 use Rattle.py_tree.specs.Names.{Name}
 use Rattle.py_tree.specs.Numbers.{is_number}
-use Rattle.py_tree.specs.Trees.{Tree, literal, name, sum, Head, value, assign}
+use Rattle.py_tree.specs.Trees.{Tree, literal, name, sum, attribute}
 use Rattle.py_tree.specs.declared.token.TokenKind.TheVariants as kind
 
-infixl 10 ◌>>=◌
-abbrev pub ◌>>=◌ : {A B : Type 0} → Option A → (A → Option B) → Option B
-None >>= f = None
-(Some x) >>= f = f x
+abbrev pub numeral : List ℕ → Tree
+numeral spelling = literal (record { kind = kind.Number; spelling = spelling })
 
--- a name or a number
-abbrev pub read_term : List ℕ → Option Tree
-read_term word =
-    cond (is_name word) (Some (name word)) (cond (is_number word) (Some (literal (record { kind = kind.Number; spelling = word }))) None)
+-- `NAME.value`
+abbrev pub value_of : Name → Tree
+value_of x = attribute (name x) (codes "value")
+
+abbrev pub read_value : Elements → List ℕ → Option Tree
+read_value es word = without_back (codes ".value") word >>= λ x. cond (is_name x && es.is_slider x) (Some (value_of x)) None
+
+-- a name, a number, or `NAME.value`
+abbrev pub read_term : Elements → List ℕ → Option Tree
+read_term es word =
+    cond (is_name word) (cond (es.is_slider word) None (Some (name word))) (cond (is_number word) (Some (numeral word)) (read_value es word))
 
 -- the word after a `+`, and the words after it
 abbrev pub next_term : List (List ℕ) → Option (List ℕ × List (List ℕ))
@@ -24,29 +31,12 @@ next_term (mark ∷ []) = None
 next_term (mark ∷ word ∷ rest) = cond (bytes_eq mark (codes "+")) (Some (word, rest)) None
 
 -- the tree with the terms that follow it
-abbrev pub read_more : Tree → List (List ℕ) → Option Tree
-read_more t [] = Some t
-read_more t (mark ∷ []) = None
-read_more t (mark ∷ word ∷ rest) =
-    cond (bytes_eq mark (codes "+") && nat_lt (terms t) 32) (read_term word >>= λ u. read_more (sum t u) rest) None
+abbrev pub read_more : Elements → Tree → List (List ℕ) → Option Tree
+read_more es t [] = Some t
+read_more es t (mark ∷ []) = None
+read_more es t (mark ∷ word ∷ rest) =
+    cond (bytes_eq mark (codes "+") && nat_lt (terms t) 32) (read_term es word >>= λ u. read_more es (sum t u) rest) None
 
-abbrev pub read_sum : List (List ℕ) → Option Tree
-read_sum [] = None
-read_sum (word ∷ rest) = read_term word >>= λ t. read_more t rest
-
--- the word before a `=`, and the words after it
-abbrev pub target : List (List ℕ) → Option (List ℕ × List (List ℕ))
-target [] = None
-target (word ∷ []) = None
-target (word ∷ mark ∷ []) = None
-target (word ∷ mark ∷ next ∷ rest) = cond (bytes_eq mark (codes "=")) (Some (word, next ∷ rest)) None
-
-abbrev pub read_assignment : Name → List (List ℕ) → Option Head
-read_assignment x rest = cond (is_name x) (option_map (assign (x ∷ [])) (read_sum rest)) None
-
-abbrev pub choose : {A B : Type 0} → Option A → (A → Option B) → Option B → Option B
-choose None f other = other
-choose (Some x) f other = f x
-
-abbrev pub read_line : List (List ℕ) → Option Head
-read_line line = choose (target line) (λ p. read_assignment p.0 p.1) (option_map value (read_sum line))
+abbrev pub read_sum : Elements → List (List ℕ) → Option Tree
+read_sum es [] = None
+read_sum es (word ∷ rest) = read_term es word >>= λ t. read_more es t rest

@@ -2,13 +2,17 @@
 #![tactic(auto)]
 
 mod cells;
+mod elements;
 pub mod laws;
 mod line;
 mod names;
 mod numbers;
 mod reader;
+mod sliders;
 mod sums;
 mod thin_file;
+mod trees;
+mod whole_line;
 mod words;
 
 pub use thin_file::{ThinFault, thin};

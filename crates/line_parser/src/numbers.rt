@@ -1,9 +1,8 @@
 // Numbers of a line.
-ghost use Rattle.std.specs.Prelude.{◌≡◌, ◌<◌, ◌&&◌, ◌^◌, length, nat_lt};
+ghost use Rattle.std.specs.Prelude.{◌≡◌, ◌<◌, ◌&&◌, ◌^◌, cond, length, nat_lt, pos, Some, None};
 ghost use Rattle.std.specs.List.{list_all};
 ghost use Rattle.py_tree.specs.Names.{is_digit};
-ghost use Rattle.py_tree.specs.Numbers.{number_of};
-ghost use Rattle.py_tree.specs.Numbers as numbers;
+ghost use Rattle.py_tree.specs.Numbers.{is_number, number_of};
 
 fn are_digits(bytes: &[u8]) -> bool
     ensures { result ≡ list_all is_digit bytes.now }
@@ -11,21 +10,23 @@ fn are_digits(bytes: &[u8]) -> bool
     bytes.iter().all(|byte| byte.is_ascii_digit())
 }
 
-// Whether the word is digits whose number an `i128` holds.
-fn is_in_range(word: &str) -> bool
+// The number that digits spell, where an `i128` holds it.
+fn decimal(word: &str) -> Option<i128>
     requires { 0 < length word.now }
-    ensures { result ≡ (list_all is_digit word.now && nat_lt (number_of word.now) (2 ^ 127)) }
+    ensures { result ≡ cond (list_all is_digit word.now && nat_lt (number_of word.now) (2 ^ 127)) (Some (pos (number_of word.now))) None }
 {
-    are_digits(word.as_bytes()) && word.parse::<i128>().is_ok()
+    if !are_digits(word.as_bytes()) {
+        return None;
+    }
+    word.parse::<i128>().ok()
 }
 
-// Whether the word is `0`, or digits that don't begin with 0 and whose number an `i128` holds.
-pub fn is_number(word: &str) -> bool
-    ensures { result ≡ numbers.is_number word.now }
+// The number of the word: of a digit, or of digits that don't begin with 0, where an `i128` holds it.
+pub fn number(word: &str) -> Option<i128>
+    ensures { result ≡ cond (is_number word.now) (Some (pos (number_of word.now))) None }
 {
     match word.as_bytes() {
-        [] => false,
-        [digit] => digit.is_ascii_digit(),
-        [first, ..] => *first != b'0' && is_in_range(word),
+        [] | [b'0', _, ..] => None,
+        _ => decimal(word),
     }
 }

@@ -1,15 +1,20 @@
 // What is left of a file of the thin form.
-ghost use Rattle.std.specs.Prelude.{◌≡◌, ℕ, ◌+◌, ◌≤◌, ◌==◌, IsTrue, MatchBool, List, [], ◌∷◌, ◌++◌, length, position, codes, Ok, None, MatchOption, IfErr, IfOk, OnErr, OnOk};
+ghost use Rattle.std.specs.Prelude.{◌≡◌, ◌⊎◌, ℕ, ◌+◌, ◌≤◌, ◌==◌, false, cond, IsTrue, MatchBool, List, [], ◌∷◌, ◌++◌, length, codes, Ok, None, Some, MatchOption, option_map, IfErr, IfOk, IfSome, OnErr, OnOk};
 ghost use Rattle.std.specs.Option.{IfNone};
-ghost use Rattle.line_parser.specs.FileReading.{BeginsWith, HasBody, IsPast, ReadsLine, is_unbroken};
+ghost use Rattle.line_parser.specs.Elements.{as_elements};
+ghost use Rattle.line_parser.specs.FileReading.{HasStmt, IsIndented, IsPast, IsPlaced, ReadsLine, is_unbroken};
 ghost use Rattle.line_parser.specs.Places.{AfterBody, Body, IsBody, IsNoNext, StopsAt};
-ghost use Rattle.notebook_meaning.specs.Thin.{text_of};
-ghost use Rattle.py_tree.specs.Trees.{end, then_comes};
-ghost use Rattle.py_tree.specs.View.{view_stmt};
+ghost use Rattle.notebook_meaning.specs.Thin.{is_line, head_text, text_of};
+ghost use Rattle.notebook_meaning.specs.Thin as thin;
+ghost use Rattle.py_tree.specs.Trees.{Head};
+ghost use Rattle.py_tree.specs.View.{view_head, view_stmt};
 
-use crate::line::body_line;
+use crate::elements::Elements;
+use crate::line::{body_line, stands_alone};
 use crate::thin_file::ThinFault;
-use py_tree::{Block, Stmt};
+use crate::whole_line::whole_line;
+use py_tree::{Block, Line, Stmt};
+use py_value::Memory;
 use std::alloc::Global;
 use std::marker::Model;
 
@@ -94,13 +99,18 @@ impl<'a> Reader<'a> {
         }
     }
 
-    // Reads the body line that comes next. None where no whole line with an indent comes.
-    pub fn stmt(&mut self, alloc: Global) -> Result<Option<Stmt>, ThinFault>
-        ensures found { IfOk result (λ o. MatchOption o (self.new ≡ self.old) (λ s. HasBody self.old self.new (then_comes (view_stmt s) end))) }
-        ensures only { ReadsLine self.old self.new result }
-        ensures ends { (BeginsWith 32 self.old.bytes → ⊥) → result ≡ Ok None }
-        ensures none { IfOk result (λ o. IfNone o (IsNoNext IsBody self.old.bytes)) }
-        ensures stuck { IfErr result (λ e. StopsAt self.old Body e × StopsAt self.old AfterBody e) }
+    // Reads the line of a body that comes next, the first one or a later one. None where no whole line with an indent comes.
+    pub fn stmt(
+        &mut self,
+        alloc: Global,
+        elements: &Elements,
+        first: bool,
+    ) -> Result<Option<Stmt>, ThinFault>
+        ensures found { IfOk result (λ o. MatchOption o (self.new ≡ self.old) (λ s. HasStmt (as_elements elements.now) first self.old self.new (view_stmt s))) }
+        ensures only { ReadsLine (as_elements elements.now) first self.old self.new result }
+        ensures ends { (IsIndented self.old.bytes → ⊥) → result ≡ Ok None }
+        ensures none { IfOk result (λ o. IfNone o (IsNoNext (IsBody (as_elements elements.now)) self.old.bytes)) }
+        ensures stuck { IfErr result (λ e. StopsAt (as_elements elements.now) self.old (cond first Body AfterBody) e) }
     {
         let Some((text, rest)) = indented(self.bytes) else {
             return Ok(None);
@@ -108,7 +118,7 @@ impl<'a> Reader<'a> {
         if self.room == 0 {
             return Err(self.fault());
         }
-        let Some(line) = body_line(alloc, text)? else {
+        let Some(line) = placed_line(alloc, text, rest, elements, first)? else {
             return Err(self.fault());
         };
         let stmt = Stmt {
@@ -123,6 +133,34 @@ impl<'a> Reader<'a> {
     }
 }
 
+// The line that the text spells, with these bytes behind it. None where it spells none that may stand there.
+fn placed_line(
+    alloc: Global,
+    text: &[u8],
+    rest: &[u8],
+    elements: &Elements,
+    first: bool,
+) -> Result<Option<Line>, Memory>
+    ensures found { IfOk result (λ o. IfSome o (λ l. IsTrue (is_line (as_elements elements.now) (view_head l)) × (text.now ≡ head_text (view_head l)) × IsPlaced first (view_head l) rest.now)) }
+    ensures only { (h : Head) → IsTrue (is_line (as_elements elements.now) h) → IsPlaced first h rest.now → text.now ≡ head_text h → IfOk result (λ o. option_map view_head o ≡ Some h) }
+    ensures none { IfOk result (λ o. IfNone o ((h : Head) → IsTrue (is_line (as_elements elements.now) h) → text.now ≡ head_text h → IsTrue (thin.stands_alone h) × ((first ≡ false) ⊎ IsIndented rest.now))) }
+{
+    let Some(line) = body_line(alloc, text, elements)? else {
+        return Ok(None);
+    };
+    if stands_alone(&line) && !is_only_line(first, rest) {
+        return Ok(None);
+    }
+    Ok(Some(line))
+}
+
+// Whether a line with these bytes behind it is the only one of its body.
+fn is_only_line(first: bool, rest: &[u8]) -> bool
+    ensures { MatchBool result (IsTrue first × (IsIndented rest.now → ⊥)) ((first ≡ false) ⊎ IsIndented rest.now) }
+{
+    first && !rest.starts_with(b"    ")
+}
+
 // What comes after the line where the bytes begin with it.
 fn after_line<'a>(bytes: &'a [u8], line: &[u8]) -> Option<&'a [u8]>
     ensures { MatchOption result ((rest : List ℕ) → bytes.now ≡ text_of (line.now ∷ []) ++ rest → ⊥) (λ rest. bytes.now ≡ text_of (line.now ∷ []) ++ rest.now) }
@@ -135,14 +173,5 @@ fn after_line<'a>(bytes: &'a [u8], line: &[u8]) -> Option<&'a [u8]>
 fn indented(bytes: &[u8]) -> Option<(&[u8], &[u8])>
     ensures { MatchOption result ((text rest : List ℕ) → bytes.now ≡ codes "    " ++ text ++ 10 ∷ rest → ⊥) (λ p. IsTrue (is_unbroken p.0.now) × (bytes.now ≡ codes "    " ++ p.0.now ++ 10 ∷ p.1.now)) }
 {
-    let line = bytes.strip_prefix(b"    ")?;
-    let end = line_end(line)?;
-    Some((&line[..end], &line[end + 1..]))
-}
-
-// The place of the first `\n`.
-fn line_end(bytes: &[u8]) -> Option<usize>
-    ensures { result ≡ position (λ b. b == 10) bytes.now }
-{
-    bytes.iter().position(|b| *b == b'\n')
+    whole_line(bytes.strip_prefix(b"    ")?)
 }

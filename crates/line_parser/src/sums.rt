@@ -1,40 +1,49 @@
 // Sums.
 ghost use Rattle.std.specs.Prelude.{◌≡◌, IfOk, option_map};
-ghost use Rattle.line_parser.specs.Words.{words, words_left};
+ghost use Rattle.line_parser.specs.Elements.{as_elements};
 ghost use Rattle.line_parser.specs.Sums as reading;
-ghost use Rattle.py_tree.specs.Trees as pure;
+ghost use Rattle.line_parser.specs.Words.{words, words_left};
 ghost use Rattle.py_tree.specs.View.{view};
 
+use crate::elements::Elements;
 use crate::names::is_name;
-use crate::numbers::is_number;
-use crate::words::next_word;
-use py_tree::{Expr, Spelling, Token, TokenKind};
+use crate::numbers::number;
+use crate::trees;
+use crate::words::{next_word, without_back};
+use py_tree::Expr;
 use py_value::Memory;
-use sqlite_items::Boxed;
 use std::alloc::Global;
 
 const MAX_TERMS: u32 = 32;
 
-pub fn spelling(alloc: Global, word: &str) -> Result<Spelling, Memory>
-    ensures { IfOk result (λ s. s ≡ word.now) }
+// `NAME.value`, where the word is this and the name is that of a slider.
+fn slider_value(alloc: Global, word: &str, elements: &Elements) -> Result<Option<Expr>, Memory>
+    ensures { IfOk result (λ o. option_map view o ≡ reading.read_value (as_elements elements.now) word.now) }
 {
-    Ok(Spelling::of(String::from_str(alloc, word)?))
+    let Some(slider) = without_back(word, ".value") else {
+        return Ok(None);
+    };
+    if !is_name(slider) || !elements.is_slider(slider) {
+        return Ok(None);
+    }
+    let name = trees::name(alloc, slider)?;
+    Ok(Some(trees::attribute(alloc, name, "value")?))
 }
 
-// The name or the number that the word is.
-fn term(alloc: Global, word: &str) -> Result<Option<Expr>, Memory>
-    ensures { IfOk result (λ o. option_map view o ≡ reading.read_term word.now) }
+// The name, the number or the value of a slider that the word is.
+fn term(alloc: Global, word: &str, elements: &Elements) -> Result<Option<Expr>, Memory>
+    ensures { IfOk result (λ o. option_map view o ≡ reading.read_term (as_elements elements.now) word.now) }
 {
     if is_name(word) {
-        return Ok(Some(Expr::Name(spelling(alloc, word)?)));
+        if elements.is_slider(word) {
+            return Ok(None);
+        }
+        return Ok(Some(trees::name(alloc, word)?));
     }
-    if is_number(word) {
-        return Ok(Some(Expr::Literal(Token {
-            kind: TokenKind::Number,
-            spelling: spelling(alloc, word)?,
-        })));
+    if number(word).is_some() {
+        return Ok(Some(trees::numeral(alloc, word)?));
     }
-    Ok(None)
+    slider_value(alloc, word, elements)
 }
 
 // The word after `+ `, and the text after it.
@@ -47,19 +56,12 @@ fn next_term(text: &str) -> Option<(&str, Option<&str>)>
     }
 }
 
-// The sum of the two.
-fn added(alloc: Global, left: Expr, right: Expr) -> Result<Expr, Memory>
-    ensures { IfOk result (λ e. view e ≡ pure.sum (view left) (view right)) }
-{
-    Ok(Expr::Sum(Boxed::new(alloc, left)?, Boxed::new(alloc, right)?))
-}
-
 // The sum that the text spells: at most `MAX_TERMS` terms, each but the first behind ` + `.
-pub fn sum(alloc: Global, text: &str) -> Result<Option<Expr>, Memory>
-    ensures { IfOk result (λ o. option_map view o ≡ reading.read_sum (words text.now)) }
+pub fn sum(alloc: Global, text: &str, elements: &Elements) -> Result<Option<Expr>, Memory>
+    ensures { IfOk result (λ o. option_map view o ≡ reading.read_sum (as_elements elements.now) (words text.now)) }
 {
     let (first, mut rest) = next_word(text);
-    let Some(mut tree) = term(alloc, first)? else {
+    let Some(mut tree) = term(alloc, first, elements)? else {
         return Ok(None);
     };
     for _terms in 1..MAX_TERMS {
@@ -69,10 +71,10 @@ pub fn sum(alloc: Global, text: &str) -> Result<Option<Expr>, Memory>
         let Some((word, after)) = next_term(text) else {
             return Ok(None);
         };
-        let Some(right) = term(alloc, word)? else {
+        let Some(right) = term(alloc, word, elements)? else {
             return Ok(None);
         };
-        tree = added(alloc, tree, right)?;
+        tree = trees::added(alloc, tree, right)?;
         rest = after;
     }
     match rest {

@@ -6,6 +6,7 @@ ghost use Rattle.py_tree.specs.Trees.{Cell};
 ghost use Rattle.py_tree.specs.View.{view_cells};
 
 use crate::cells::cells;
+use crate::elements::Elements;
 use crate::reader::Reader;
 use py_tree::CellCode;
 use py_value::Memory;
@@ -19,8 +20,8 @@ const BODY_LINES: u32 = 1000;
 /// Why bytes are no file of the thin form.
 #[derive(Clone, Copy, Debug, PartialEq, Eq)]
 pub enum ThinFault {
-    /// The number of the first line that doesn't fit, from 1; one more than the number of `\n` where the file ends too early; 0
-    /// where there are too many bytes.
+    /// The number of the first line that doesn't fit, from 1, as one that has to stand alone and has an indented line behind it;
+    /// one more than the number of `\n` where the file ends too early; 0 where there are too many bytes.
     Thin { line: u32 },
     /// Memory was wanting.
     Memory,
@@ -57,10 +58,11 @@ pub fn thin(alloc: Global, bytes: &[u8]) -> Result<Vec<CellCode>, ThinFault>
     if bytes.len() > BYTES {
         return Err(ThinFault::Thin { line: 0 });
     }
+    let elements = Elements::of(alloc, bytes)?;
     let mut reader = Reader::new(bytes, BODY_LINES);
     reader.expect(b"import marimo")?;
     reader.expect(b"app = marimo.App()")?;
-    let cells = cells(alloc, &mut reader)?;
+    let cells = cells(alloc, &mut reader, &elements)?;
     reader.expect(b"if __name__ == \"__main__\":")?;
     reader.expect(b"    app.run()")?;
     if !reader.is_at_end() {

@@ -1,28 +1,34 @@
 -- What a cell's run leaves, from what the evaluator answers.
 use Rattle.std.proofs.Common.{◌≡◌, ◌∙◌, sym, ap, subst, ℕ, true, not, List}
-use Rattle.std.specs.Prelude.{option_map}
+use Rattle.std.specs.Prelude.{option_and_then}
 use Rattle.std.specs.List.{list_all}
 use Rattle.notebook_meaning.specs.Meaning.{Env, Flow}
-use Rattle.notebook_meaning.specs.Spending.{Spending, Got, Failed, Spent, cost_of}
+use Rattle.notebook_meaning.specs.Spending.{Spending, Got, Failed, Spent, runs, cost_of}
 use Rattle.notebook_meaning.specs.Whole as whole
 use Rattle.py_eval.specs.Shows.{Shows}
 use Rattle.py_eval.specs.declared.run.Ran.{Ran}
+use Rattle.py_tree.specs.Elements.{elements}
 use Rattle.py_tree.specs.Names.{Name, is_among, is_local}
 use Rattle.py_tree.specs.Scope.{defs, bound}
 use Rattle.py_tree.specs.Trees.{Cell}
 use Rattle.py_value.specs.Maps.{where_name}
-use Rattle.nbserve.specs.Opened.{IsPlain, frame_after, status_after, error_after, settled}
+use Rattle.nbserve.specs.Opened.{IsPlain, run_of, frame_after, status_after, error_after, settled}
+use Rattle.nbserve.specs.declared.progress.Progress.{Progress}
 use Rattle.nbserve.proofs.NamesOf.{among_defs, among_plain}
 use Rattle.nbserve.proofs.Without.{where_name_all, where_name_again, where_name_same, where_name_swap}
+
+-- the run is that of the cell where the elements that the scene names are its own
+pub run_here : (r : Ran) (after : Env) (p : Progress) (code : Cell) (own : List Name) → own ≡ elements code → Shows r after p.budget (runs (record { own = own; present = p.present }) p.env code.body p.budget) → Shows r after p.budget (run_of p code)
+run_here r after p code own is shows = subst (λ own. Shows r after p.budget (runs (record { own = own; present = p.present }) p.env code.body p.budget)) is shows
 
 -- the frame that the answer gives is that of the run
 pub frame_shown : (c : ℕ) (r : Ran) (env : Env) (budget : ℕ) (run : Spending Flow) → Shows r env budget run → frame_after c r ≡ whole.ran_frame c run
 frame_shown c r env budget (Got flow left console) h =
-    λ i. record { cell = c; status = status_after (h.0 i); output = option_map whole.shown (h.3 i); console = h.2 i; error = error_after (h.0 i) }
+    λ i. record { cell = c; status = status_after (h.0 i); output = option_and_then whole.shown (h.3 i); console = h.2 i; error = error_after (h.0 i) }
 frame_shown c r env budget (Failed kind line left console) h =
-    λ i. record { cell = c; status = status_after (h.0 i); output = option_map whole.shown (h.3 i); console = h.2 i; error = error_after (h.0 i) }
+    λ i. record { cell = c; status = status_after (h.0 i); output = option_and_then whole.shown (h.3 i); console = h.2 i; error = error_after (h.0 i) }
 frame_shown c r env budget (Spent line left console) h =
-    λ i. record { cell = c; status = status_after (h.0 i); output = option_map whole.shown (h.3 i); console = h.2 i; error = error_after (h.0 i) }
+    λ i. record { cell = c; status = status_after (h.0 i); output = option_and_then whole.shown (h.3 i); console = h.2 i; error = error_after (h.0 i) }
 
 -- so is the cost
 pub cost_shown : (r : Ran) (env : Env) (budget : ℕ) (run : Spending Flow) → Shows r env budget run → r.cost ≡ cost_of budget run

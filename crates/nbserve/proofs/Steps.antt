@@ -12,12 +12,12 @@ use Rattle.notebook_meaning.specs.Meaning.{Env}
 use Rattle.notebook_meaning.specs.Spending.{runs}
 use Rattle.notebook_meaning.specs.Whole as whole
 use Rattle.notebook_meaning.specs.declared.frames.CellFrame.{CellFrame}
-use Rattle.py_eval.specs.Shows.{scene_of}
+use Rattle.py_tree.specs.Elements.{elements}
 use Rattle.py_tree.specs.Scope.{defs}
 use Rattle.py_tree.specs.Trees.{Cell}
 use Rattle.py_tree.specs.View.{view_cell, view_cells}
 use Rattle.py_tree.specs.declared.tree.CellCode.{CellCode}
-use Rattle.py_value.specs.declared.values.Value.{Value}
+use Rattle.py_value.specs.declared.types.Value.{Value}
 use Rattle.py_value.specs.Maps.{Map}
 use Rattle.nbserve.specs.declared.progress.Progress.{Progress}
 use Rattle.nbserve.specs.Opened.{IsGood, progress_of, outcome_at}
@@ -54,14 +54,18 @@ may_run cells p c ok ps b good ok_is ps_is b_is =
 pub defs_are : (nb : List Cell) (c : ℕ) (code : Cell) → slice_get nb c ≡ Some code → graph.defs_of nb c ≡ defs code
 defs_are nb c code e = ap (graph.names_at defs) e
 
+-- and its elements are those of its code
+pub elements_are : (nb : List Cell) (c : ℕ) (code : Cell) → slice_get nb c ≡ Some code → graph.elements_of nb c ≡ elements code
+elements_are nb c code e = ap (graph.names_at elements) e
+
 -- a cell that may not run is cancelled
 pub cancelled_outcome : (nb : List Cell) (p : Progress) (c : ℕ) (code : Cell) → list_all (whole.ended_ok p.frames.items) (graph.parents nb c) ≡ false → whole.cancelled c (whole.without_defs code p.env) ≡ outcome_at nb p c code
 cancelled_outcome nb p c code off = sym (ap (λ b. whole.outcome_of p.budget [] b c p.env code) off)
 
 -- a cell that may run does what its run says
-pub ran_outcome : (nb : List Cell) (n : ℕ) (p : Progress) (c : ℕ) (code : Cell) (env : Env) → IsGood n p → list_all (whole.ended_ok p.frames.items) (graph.parents nb c) ≡ true → env ≡ whole.without_defs code p.env → whole.ran c env p.budget (runs (scene_of p.scene) env code.body p.budget) ≡ outcome_at nb p c code
+pub ran_outcome : (nb : List Cell) (n : ℕ) (p : Progress) (c : ℕ) (code : Cell) (env : Env) → IsGood n p → list_all (whole.ended_ok p.frames.items) (graph.parents nb c) ≡ true → env ≡ whole.without_defs code p.env → whole.ran c env p.budget (runs (record { own = elements code; present = p.present }) env code.body p.budget) ≡ outcome_at nb p c code
 ran_outcome nb n p c code env good on is =
-    (λ i. whole.ran c (is i) p.budget (runs (record { own = good.own i; present = good.present i }) (is i) code.body p.budget))
+    (λ i. whole.ran c (is i) p.budget (runs (record { own = elements code; present = good.present i }) (is i) code.body p.budget))
     ∙ sym (ap (λ b. whole.outcome_of p.budget [] b c p.env code) on)
 
 -- the result is the cell's own

@@ -1,5 +1,5 @@
 -- What the opening keeps.
-use Rattle.std.specs.Prelude.{◌≡◌, ℕ, ◌<◌, Bool, false, not, List, [], length, slice_index_or, Option, Some, None, option_map}
+use Rattle.std.specs.Prelude.{◌≡◌, ℕ, ◌<◌, Bool, false, not, List, [], length, slice_index_or, Option, Some, None, option_and_then}
 use Rattle.std.specs.List.{list_all}
 use Rattle.notebook_meaning.specs.declared.frames.CellError.{CellError}
 use Rattle.notebook_meaning.specs.declared.frames.CellFrame.{CellFrame}
@@ -9,14 +9,14 @@ use Rattle.notebook_meaning.specs.Graph.{parents}
 use Rattle.notebook_meaning.specs.Meaning.{Env, Flow}
 use Rattle.notebook_meaning.specs.Spending.{Spending, runs}
 use Rattle.notebook_meaning.specs.Whole as whole
-use Rattle.py_eval.specs.Shows.{scene_of}
+use Rattle.py_tree.specs.Elements.{elements}
 use Rattle.py_eval.specs.declared.run.End.{End}
 use Rattle.py_eval.specs.declared.run.End.TheVariants as end
 use Rattle.py_eval.specs.declared.run.Ran.{Ran}
 use Rattle.py_tree.specs.Names.{Name, is_among, is_local}
 use Rattle.py_tree.specs.Trees.{Cell}
 use Rattle.py_value.specs.Maps.{where_name}
-use Rattle.py_value.specs.declared.values.ErrorKind.TheVariants as errors
+use Rattle.py_value.specs.declared.error_kind.ErrorKind.TheVariants as errors
 use Rattle.nbserve.specs.declared.progress.Progress.{Progress}
 
 -- the status and error of a cell whose run ended so
@@ -33,7 +33,7 @@ error_after (end.Spent line) = Some (record { kind = errors.Spent; line = line }
 -- the result of a cell after its run
 abbrev pub frame_after : ℕ → Ran → CellFrame
 frame_after c r =
-    record { cell = c; status = status_after r.end; output = option_map whole.shown r.last; console = r.console; error = error_after r.end }
+    record { cell = c; status = status_after r.end; output = option_and_then whole.shown r.last; console = r.console; error = error_after r.end }
 
 -- what a cell leaves bound after its run: nothing that it defines where it isn't ok
 abbrev pub settled : End → List Name → Env → Env
@@ -54,16 +54,15 @@ IsPlain env = where_name (λ x. not (is_local x)) env ≡ env
 abbrev pub progress_of : Progress → List ℕ → whole.Progress
 progress_of p costs = record { env = p.env; frames = p.frames.items; costs = costs }
 
--- what the run of n cells keeps: flags that show which cells have ended ok, no underscore names, and no elements
+-- what the run of n cells keeps: flags that show which cells have ended ok, no underscore names, and no present values
 pub record IsGood (n : ℕ) (p : Progress) : Type 0 where
   pub flags : AreFlags n p.ok.items p.frames.items
   pub plain : IsPlain p.env
-  pub own : (scene_of p.scene).own ≡ []
-  pub present : (scene_of p.scene).present ≡ []
+  pub present : p.present ≡ []
 
 -- the run of a cell from the bindings so far
 abbrev pub run_of : Progress → Cell → Spending Flow
-run_of p code = runs (scene_of p.scene) p.env code.body p.budget
+run_of p code = runs (record { own = elements code; present = p.present }) p.env code.body p.budget
 
 -- what the cell with the number c does next
 abbrev pub outcome_at : List Cell → Progress → ℕ → Cell → whole.Outcome

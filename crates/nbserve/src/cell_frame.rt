@@ -1,31 +1,53 @@
 // The results of cells.
-ghost use Rattle.std.specs.Prelude.{◌≡◌, IfOk, option_map};
+ghost use Rattle.std.specs.Prelude.{◌≡◌, IfOk, option_and_then};
 ghost use Rattle.nbserve.specs.Opened.{error_after, frame_after};
 ghost use Rattle.notebook_meaning.specs.Whole as whole;
+ghost use Rattle.py_value.specs.Texts.{str_of, element_text};
+ghost use Rattle.py_value.specs.View.{data_of};
 
 use notebook_meaning::{CellError, CellFrame, Output, OutputKind, Status};
 use py_eval::{End, Ran};
-use py_value::{ErrorKind, Lines, Memory, Text, Value};
+use py_value::{Element, ErrorKind, Lines, Memory, Text, Value, write_element, write_str};
 use std::alloc::Global;
 
-// What a value shows as the output of a cell.
-fn shown(alloc: Global, value: &Value) -> Result<Output, Memory>
+// The `str` of a value.
+fn text_of(alloc: Global, value: &Value) -> Result<Text, Memory>
+    ensures { IfOk result (λ text. text ≡ str_of (data_of value.now)) }
+{
+    let mut text = Text::new(alloc);
+    write_str(alloc, value, &mut text)?;
+    Ok(text)
+}
+
+// The text of an element.
+fn text_of_element(alloc: Global, element: &Element) -> Result<Text, Memory>
+    ensures { IfOk result (λ text. text ≡ element_text element.now) }
+{
+    let mut text = Text::new(alloc);
+    write_element(alloc, element, &mut text)?;
+    Ok(text)
+}
+
+// What a value shows as the output of a cell; nothing where it is None.
+fn shown(alloc: Global, value: &Value) -> Result<Option<Output>, Memory>
     ensures { IfOk result (λ output. output ≡ whole.shown value.now) }
 {
-    let Value::Int(number) = value;
-    let text = Text::of(number.to_string(alloc)?);
-    Ok(Output {
-        text,
-        kind: OutputKind::Plain,
-    })
+    let (text, kind) = match value {
+        Value::None => return Ok(None),
+        Value::Int(number) => (Text::of(number.to_string(alloc)?), OutputKind::Plain),
+        Value::Element(element) => (text_of_element(alloc, element)?, OutputKind::Element),
+        Value::Html(html) => (html.copy(alloc)?, OutputKind::Html),
+        _ => (text_of(alloc, value)?, OutputKind::Plain),
+    };
+    Ok(Some(Output { text, kind }))
 }
 
 // The output of a cell whose last line has this value.
 fn output_of(alloc: Global, last: Option<Value>) -> Result<Option<Output>, Memory>
-    ensures { IfOk result (λ output. output ≡ option_map whole.shown last) }
+    ensures { IfOk result (λ output. output ≡ option_and_then whole.shown last) }
 {
     match last {
-        Some(value) => Ok(Some(shown(alloc, &value)?)),
+        Some(value) => shown(alloc, &value),
         None => Ok(None),
     }
 }

@@ -5,6 +5,7 @@ ghost use Rattle.nbserve.specs.Opened.{AreFlags, IsGood, progress_of, IsPlain, o
 ghost use Rattle.notebook_meaning.specs.Spending.{cost_of};
 ghost use Rattle.notebook_meaning.specs.Thin.{are_thin};
 ghost use Rattle.notebook_meaning.specs.Whole as whole;
+ghost use Rattle.py_tree.specs.Elements.{elements};
 ghost use Rattle.py_tree.specs.Levels.{are_levelled};
 ghost use Rattle.py_tree.specs.Names.{is_among, is_local};
 ghost use Rattle.py_tree.specs.Scope as scope;
@@ -52,7 +53,7 @@ fn settle(env: &mut Env, defs: &Lines, end: End)
 #[derive(Drop)]
 pub struct Progress {
     budget: u64,
-    scene: Scene,
+    present: Present,
     env: Env,
     ok: Vec<bool>,
     frames: Vec<CellFrame>,
@@ -67,10 +68,7 @@ impl Progress {
     {
         Ok(Progress {
             budget,
-            scene: Scene {
-                own: Lines::of(Vec::new(alloc)),
-                present: Present::new(alloc),
-            },
+            present: Present::new(alloc),
             env: Env::new(alloc),
             ok: Vec::from_elem(alloc, false, count)?,
             frames: Vec::new(alloc),
@@ -84,26 +82,25 @@ impl Progress {
         code: &CellCode,
         cell: u32,
         defs: &Lines,
+        own: &Lines,
         steps: &mut Steps<L>,
     ) -> Result<CellFrame, Memory>
         requires levelled { IsTrue (are_levelled (view_block code.now.body)) }
         requires plain_code { IsTrue (list_all (λ x. not (is_local x)) (scope.bound (view_block code.now.body))) }
         requires plain { IsPlain self.old.env }
         requires defs { defs.now ≡ scope.defs (view_cell code.now) }
+        requires own { own.now ≡ elements (view_cell code.now) }
         requires removed { whole.without_defs (view_cell code.now) self.old.env ≡ self.old.env }
         ensures frame { IfOk result (λ frame. frame ≡ whole.ran_frame cell (run_of self.old (view_cell code.now))) }
         ensures env { OnOk result (self.new.env ≡ whole.env_after self.old.env (run_of self.old (view_cell code.now))) }
         ensures steps { OnOk result (steps.new ≡ steps.old + cost_of self.old.budget (run_of self.old (view_cell code.now))) }
         ensures others { self.new ≡ record self.old { env = self.new.env } }
     {
-        let ran = run_block(
-            alloc,
-            &mut self.env,
-            &code.body,
-            &self.scene,
-            self.budget,
-            steps,
-        )?;
+        let scene = Scene {
+            own,
+            present: &self.present,
+        };
+        let ran = run_block(alloc, &mut self.env, &code.body, &scene, self.budget, steps)?;
         settle(&mut self.env, defs, ran.end);
         ran_frame(alloc, cell, ran)
     }
@@ -133,7 +130,15 @@ impl Progress {
         if !all_ok(notebook.parents(cell), self.ok.as_slice()) {
             return Ok(cancelled_frame(alloc, cell));
         }
-        self.run_cell(alloc, &notebook.cells()[cell as usize], cell, defs, steps)
+        let own = notebook.elements_of(cell);
+        self.run_cell(
+            alloc,
+            &notebook.cells()[cell as usize],
+            cell,
+            defs,
+            own,
+            steps,
+        )
     }
 
     // Keeps the result of a cell.
@@ -144,7 +149,7 @@ impl Progress {
         ensures flags { OnOk result (AreFlags (length self.old.ok.items) self.new.ok.items self.new.frames.items) }
         ensures frames { OnOk result (self.new.frames.items ≡ self.old.frames.items ++ frame ∷ []) }
         ensures env { self.new.env ≡ self.old.env }
-        ensures scene { self.new.scene ≡ self.old.scene }
+        ensures present { self.new.present ≡ self.old.present }
         ensures budget { self.new.budget ≡ self.old.budget }
     {
         if frame.status == Status::Ok {

@@ -189,6 +189,77 @@ fn refuses_doubled_names_and_cycles(rt: HostRuntime) -> Result<(), Fail> {
 }
 
 #[test]
+fn opens_notebooks_with_sliders(rt: HostRuntime) -> Result<(), Fail> {
+    let cases: [(&[&str], &str); 3] = [
+        (
+            &[
+                "import marimo as mo",
+                "s = mo.ui.slider(0, 10)",
+                "s.value + 1",
+            ],
+            "{\"cell\":0,\"console\":[],\"error\":null,\"output\":null,\"status\":\"ok\"}\n{\"cell\":1,\"console\":[],\"error\":null,\"output\":null,\"status\":\"ok\"}\n{\"cell\":2,\"console\":[],\"error\":null,\"output\":{\"text\":\"1\",\"type\":\"plain\"},\"status\":\"ok\"}\n{\"done\":3}\n",
+        ),
+        // a slider begins at its first number
+        (
+            &[
+                "t = s.value + s.value\n    t",
+                "s = mo.ui.slider(7, 10)",
+                "import marimo as mo",
+            ],
+            "{\"cell\":2,\"console\":[],\"error\":null,\"output\":null,\"status\":\"ok\"}\n{\"cell\":1,\"console\":[],\"error\":null,\"output\":null,\"status\":\"ok\"}\n{\"cell\":0,\"console\":[],\"error\":null,\"output\":{\"text\":\"14\",\"type\":\"plain\"},\"status\":\"ok\"}\n{\"done\":3}\n",
+        ),
+        (
+            &[
+                "import marimo as mo",
+                "s.value + zz",
+                "s = mo.ui.slider(0, 10)",
+            ],
+            "{\"cell\":0,\"console\":[],\"error\":null,\"output\":null,\"status\":\"ok\"}\n{\"cell\":2,\"console\":[],\"error\":null,\"output\":null,\"status\":\"ok\"}\n{\"cell\":1,\"console\":[],\"error\":{\"kind\":\"NameError\",\"line\":8},\"output\":null,\"status\":\"error\"}\n{\"done\":3}\n",
+        ),
+    ];
+    for (bodies, wanted) in cases {
+        let text = file_of(rt.alloc(), bodies)?;
+        let answer = answered(rt.alloc(), opened(text.as_slice()))?;
+        assert_eq!(rt; answer.status, 0);
+        assert_eq!(rt; answer.written.as_slice(), wanted.as_bytes());
+    }
+    Ok(())
+}
+
+// Line 5 is the body line of the first cell, and line 8 that of the second one where the first has one line.
+#[test]
+fn refuses_notebooks_with_sliders(rt: HostRuntime) -> Result<(), Fail> {
+    let cases: [(&[&str], &str); 6] = [
+        (&["s = mo.ui.slider(0, 10)"], "refused 5 Thin\n"),
+        (&["import marimo as mo\n    x = 1"], "refused 5 Thin\n"),
+        (
+            &["import marimo as mo", "x = s", "s = mo.ui.slider(0, 10)"],
+            "refused 8 Thin\n",
+        ),
+        (&["s = 1", "s.value"], "refused 8 Thin\n"),
+        (
+            &[
+                "import marimo as mo",
+                "s = mo.ui.slider(0, 10)",
+                "s = mo.ui.slider(1, 5)",
+            ],
+            "refused doubly s 1 2\n",
+        ),
+        (
+            &["import marimo as mo", "import marimo as mo"],
+            "refused doubly mo 0 1\n",
+        ),
+    ];
+    for (bodies, wanted) in cases {
+        let text = file_of(rt.alloc(), bodies)?;
+        let answer = answered(rt.alloc(), opened(text.as_slice()))?;
+        assert_eq!(rt; answer.status, 1);
+        assert_eq!(rt; answer.written.as_slice(), wanted.as_bytes());
+    }
+    Ok(())
+}
+
+#[test]
 fn tests_the_form_first(rt: HostRuntime) -> Result<(), Fail> {
     // `b` is defined in two cells, and the last line has no line end.
     let text =

@@ -1,2 +1,4 @@
+pub mod Failures
 pub mod OneRun
 pub mod Orders
+pub mod Sliders

@@ -2,7 +2,7 @@
 use Rattle.std.specs.Prelude.{ℕ, List, [], ◌∷◌, ◌++◌, length, map}
 use Rattle.py_tree.specs.Trees.{Cell}
 use Rattle.py_value.specs.Maps.{Map}
-use Rattle.py_value.specs.declared.values.Value.{Value}
+use Rattle.py_value.specs.declared.types.Value.{Value}
 use Rattle.notebook_meaning.specs.declared.frames.Frame.{Frame}
 use Rattle.notebook_meaning.specs.declared.frames.Frame.TheVariants as frame
 use Rattle.notebook_meaning.specs.Whole.{whole}

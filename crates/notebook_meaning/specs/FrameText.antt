@@ -3,8 +3,8 @@ use Rattle.std.specs.Prelude.{ℕ, ◌/◌, ◌%◌, cond, ◌==◌, ◌||◌, n
 use Rattle.std.specs.List.{join_with_byte}
 use Rattle.std.specs.Fmt.{digit_glyph}
 use Rattle.std.specs.Prelude.{false}
-use Rattle.py_value.specs.declared.values.ErrorKind.{ErrorKind}
-use Rattle.py_value.specs.declared.values.ErrorKind.TheVariants as kind
+use Rattle.py_value.specs.declared.error_kind.ErrorKind.{ErrorKind}
+use Rattle.py_value.specs.declared.error_kind.ErrorKind.TheVariants as kind
 use Rattle.notebook_meaning.specs.declared.frames.Status.{Status}
 use Rattle.notebook_meaning.specs.declared.frames.Status.TheVariants as status
 use Rattle.notebook_meaning.specs.declared.frames.Output.{Output}

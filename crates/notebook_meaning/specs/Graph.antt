@@ -1,6 +1,7 @@
 -- The graph of a notebook, which is its cells in file order. Cells have numbers from 0.
 use Rattle.std.specs.Prelude.{◌≡◌, ℕ, zero, suc, ◌+◌, ◌<◌, Bool, not, ◌&&◌, ◌==◌, nat_lt, IsTrue, List, [], ◌∷◌, ◌++◌, length, filter, find, Option, Some, None, slice_get}
 use Rattle.std.specs.List.{list_any, list_all}
+use Rattle.py_tree.specs.Elements.{elements}
 use Rattle.py_tree.specs.Names.{Name, is_among}
 use Rattle.py_tree.specs.Scope.{defs, refs}
 use Rattle.py_tree.specs.Trees.{Cell}
@@ -10,12 +11,15 @@ abbrev pub names_at : (Cell → List Name) → Option Cell → List Name
 names_at f None = []
 names_at f (Some c) = f c
 
--- the names that a cell defines, and those that it references, by its number
+-- the names that a cell defines, those that it references, and those of the elements that it creates, by its number
 abbrev pub defs_of : List Cell → ℕ → List Name
 defs_of nb c = names_at defs (slice_get nb c)
 
 abbrev pub refs_of : List Cell → ℕ → List Name
 refs_of nb c = names_at refs (slice_get nb c)
+
+abbrev pub elements_of : List Cell → ℕ → List Name
+elements_of nb c = names_at elements (slice_get nb c)
 
 -- an edge goes from a to b where b references a definition of a
 abbrev pub edge : List Cell → ℕ → ℕ → Bool

@@ -1,6 +1,6 @@
 -- The runs of a trace as a relation: to its end, or cut directly after one of its charges.
 use Rattle.std.specs.Prelude.{◌≡◌, ℕ, ◌+◌, ◌<◌, List, [], ◌∷◌, ◌++◌}
-use Rattle.py_value.specs.declared.values.ErrorKind.{ErrorKind}
+use Rattle.py_value.specs.declared.error_kind.ErrorKind.{ErrorKind}
 use Rattle.notebook_meaning.specs.Trace.{Trace, Gives, Faults, Charges, Prints}
 use Rattle.notebook_meaning.specs.Spending.{Spending, Got, Failed, Spent, spend}
 

@@ -1,7 +1,7 @@
 -- Runs under a budget of steps.
 use Rattle.std.specs.Prelude.{ℕ, ◌-◌, nat_le, if◌then◌else◌, List, [], ◌∷◌, ◌++◌}
 use Rattle.py_tree.specs.Trees.{Stmts}
-use Rattle.py_value.specs.declared.values.ErrorKind.{ErrorKind}
+use Rattle.py_value.specs.declared.error_kind.ErrorKind.{ErrorKind}
 use Rattle.notebook_meaning.specs.Trace.{Trace, Gives, Faults, Charges, Prints}
 use Rattle.notebook_meaning.specs.Meaning.{Scene, Env, Flow, block_of}
 

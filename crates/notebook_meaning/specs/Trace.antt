@@ -1,6 +1,6 @@
 -- What a run of code does, with no budget.
 use Rattle.std.specs.Prelude.{ℕ, List}
-use Rattle.py_value.specs.declared.values.ErrorKind.{ErrorKind}
+use Rattle.py_value.specs.declared.error_kind.ErrorKind.{ErrorKind}
 
 -- In order: the steps that it is charged, each on a line, and the lines that it prints; and at the end what it gives, or the
 -- error, with its line, that ends it.

@@ -1,14 +1,17 @@
 -- The results of all cells when the whole notebook runs from nothing.
-use Rattle.std.specs.Prelude.{ℕ, Bool, true, false, cond, not, ◌&&◌, ◌==◌, List, [], ◌∷◌, ◌++◌, Option, Some, None, slice_get, option_map}
+use Rattle.std.specs.Prelude.{ℕ, Bool, true, false, cond, not, ◌&&◌, ◌==◌, List, [], ◌∷◌, ◌++◌, Option, Some, None, slice_get, option_and_then}
+use Rattle.std.specs.Fmt.{signed_decimal}
 use Rattle.std.specs.List.{list_any, list_all}
+use Rattle.py_tree.specs.Elements.{elements}
 use Rattle.py_tree.specs.Names.{is_among, is_local}
 use Rattle.py_tree.specs.Scope.{defs}
 use Rattle.py_tree.specs.Trees.{Cell}
 use Rattle.py_value.specs.Maps.{Map, where_name}
-use Rattle.py_value.specs.Whole.{str}
-use Rattle.py_value.specs.declared.values.Value.{Value}
-use Rattle.py_value.specs.declared.values.Value.TheVariants.{Int}
-use Rattle.py_value.specs.declared.values.ErrorKind.TheVariants as errors
+use Rattle.py_value.specs.Texts.{str_of, element_text}
+use Rattle.py_value.specs.View.{data_of}
+use Rattle.py_value.specs.declared.types.Value.{Value}
+use Rattle.py_value.specs.declared.types.Value.TheVariants as V
+use Rattle.py_value.specs.declared.error_kind.ErrorKind.TheVariants as errors
 use Rattle.notebook_meaning.specs.declared.frames.Status.{Status}
 use Rattle.notebook_meaning.specs.declared.frames.Status.TheVariants as status
 use Rattle.notebook_meaning.specs.declared.frames.Output.{Output}
@@ -19,9 +22,13 @@ use Rattle.notebook_meaning.specs.Graph.{parents, order}
 use Rattle.notebook_meaning.specs.Meaning.{Env, Flow}
 use Rattle.notebook_meaning.specs.Spending.{Spending, Got, Failed, Spent, runs, cost_of, console_of}
 
--- what a value shows as the output of a cell
-abbrev pub shown : Value → Output
-shown (Int z) = record { text = str (Int z); kind = output.Plain }
+-- what a value shows as the output of a cell; nothing where it is None
+abbrev pub shown : Value → Option Output
+shown V.None = None
+shown (V.Int n) = Some (record { text = signed_decimal n; kind = output.Plain })
+shown (V.Element e) = Some (record { text = element_text e; kind = output.Element })
+shown (V.Html t) = Some (record { text = t; kind = output.Html })
+shown v = Some (record { text = str_of (data_of v); kind = output.Plain })
 
 -- the status, output and error of a cell that ran
 abbrev pub status_of : Spending Flow → Status
@@ -30,7 +37,7 @@ status_of (Failed kind line left console) = status.Error
 status_of (Spent line left console) = status.Error
 
 abbrev pub output_of : Spending Flow → Option Output
-output_of (Got flow left console) = option_map shown flow.last
+output_of (Got flow left console) = option_and_then shown flow.last
 output_of (Failed kind line left console) = None
 output_of (Spent line left console) = None
 
@@ -76,7 +83,7 @@ cancelled c env = record { frame = cancelled_frame c; env = env; cost = 0 }
 abbrev pub outcome_of : ℕ → Map Value → Bool → ℕ → Env → Cell → Outcome
 outcome_of budget ui may_run c env code =
     let from = without_defs code env in
-    cond may_run (ran c from budget (runs (record { own = []; present = ui }) from code.body budget)) (cancelled c from)
+    cond may_run (ran c from budget (runs (record { own = elements code; present = ui }) from code.body budget)) (cancelled c from)
 
 -- where the run of a notebook stands: the bindings, and the results and costs of the cells so far
 pub record Progress : Type 0 where

@@ -6,4 +6,6 @@ use py_value::Value;
 pub enum Binding {
     /// A value.
     Plain(Value),
+    /// The module `mo`.
+    Module,
 }

@@ -1,14 +1,21 @@
 // Worked notebooks and laws, computed and proved from the definitions.
-ghost use Rattle.std.specs.Prelude.{◌≡◌, ℕ, ◌<◌, true, List, [], ◌∷◌, length, codes};
+ghost use Rattle.std.specs.Prelude.{◌≡◌, ℕ, ◌<◌, true, List, [], ◌∷◌, ◌++◌, length, codes, map, Some, None};
 ghost use Rattle.py_tree.specs.Trees.{Tree, Stmts, Cell};
+ghost use Rattle.py_value.specs.ElementData.{ElementData};
+ghost use Rattle.py_value.specs.declared.types.Value.TheVariants as V;
+ghost use Rattle.py_value.specs.declared.error_kind.ErrorKind.TheVariants.{RuntimeError};
 ghost use Rattle.notebook_meaning.specs.Graph.{order, is_in, LiesOnCycle, NoneCyclic};
 ghost use Rattle.notebook_meaning.specs.Meaning.{Scene, Env, value_of, block_of};
 ghost use Rattle.notebook_meaning.specs.Runs.{HasOneRun};
 ghost use Rattle.notebook_meaning.specs.Whole.{whole};
+ghost use Rattle.notebook_meaning.specs.Fails.{FailsAt};
 ghost use Rattle.notebook_meaning.specs.Thin.{are_thin, file_lines, text_of};
 ghost use Rattle.notebook_meaning.specs.Once.{IsAccepted, Doubly, Cycle, FailsFirst, refusal_text, usual_budget, once_text};
-ghost use Rattle.notebook_meaning.specs.Samples.{three_cells, three_cells_file, three_cells_text, lone_name, lone_name_text, failing, failing_text, doubled, cyclic, diamond, too_great, too_great_text, four_steps};
-ghost use Rattle.notebook_meaning.specs.Spending.{Spent, runs, cost_of};
+ghost use Rattle.notebook_meaning.specs.Samples.{three_cells, three_cells_file, three_cells_text, lone_name, lone_name_text, failing, failing_text, doubled, cyclic, diamond, too_great, too_great_text, four_steps, with_slider, with_slider_file, with_slider_text, s_at_four, reads_s};
+ghost use Rattle.notebook_meaning.specs.Spending.{Failed, Spent, runs, cost_of};
+ghost use Rattle.notebook_meaning.specs.declared.binding.Binding.TheVariants.{Plain};
+ghost use Rattle.notebook_meaning.specs.declared.frames.CellFrame.{CellFrame};
+ghost use Rattle.notebook_meaning.specs.declared.frames.OutputKind.TheVariants as output;
 
 /// The order lists every cell exactly where no cell lies on a cycle, and it lists no cell of a cycle.
 pub fn order_and_cycles()
@@ -45,4 +52,25 @@ pub fn worked_notebooks()
     ensures range_costs { (whole too_great usual_budget []).costs ≡ 2 ∷ 4 ∷ 0 ∷ 2 ∷ [] }
     ensures fits { cost_of 4 (runs (record { own = []; present = [] }) [] four_steps 4) ≡ 4 }
     ensures spent { runs (record { own = []; present = [] }) [] four_steps 3 ≡ Spent 5 0 [] }
+{}
+
+/// What the definitions say of a small notebook with a slider: the order, the file, what is written, what the cells cost, what is shown
+/// to a visitor who has set the slider, and that a cell can't read the value of an element that it creates itself.
+pub fn worked_slider()
+    ensures order { order with_slider ≡ 0 ∷ 1 ∷ 2 ∷ [] }
+    ensures thin { are_thin with_slider ≡ true }
+    ensures file { text_of (file_lines with_slider) ≡ with_slider_file }
+    ensures accepted { IsAccepted with_slider_file with_slider }
+    ensures text { once_text with_slider ≡ with_slider_text }
+    ensures costs { (whole with_slider usual_budget []).costs ≡ 1 ∷ 4 ∷ 5 ∷ [] }
+    ensures present { map (λ (f : CellFrame). f.output) (whole with_slider usual_budget s_at_four).frames
+        ≡ None ∷ None ∷ Some (record { text = codes "5"; kind = output.Plain }) ∷ [] }
+    ensures own { (e : ElementData) → e.name ≡ codes "s"
+        → runs (record { own = codes "s" ∷ []; present = [] }) ((codes "s", Plain (V.Element e)) ∷ []) reads_s 10 ≡ Failed RuntimeError 5 7 [] }
+{}
+
+/// At which lines small inputs fail: the empty file at its first line, and the file of no cells with a line `q` behind it at that line.
+pub fn worked_failures()
+    ensures empty { FailsAt [] 1 }
+    ensures behind { FailsAt (text_of (file_lines [] ++ codes "q" ∷ [])) 5 }
 {}

@@ -47,3 +47,8 @@ onward t f a l m h = spend-bind t f l [] ∙ ap (λ s. then_spend s (λ a. spend
 -- a charge that fits
 pub paid : {A : Type 0} (t : Trace A) (n line l m : ℕ) → pay n line l [] ≡ Got (unit n) m [] → spend (Charges n line t) l [] ≡ spend t m []
 paid t n line l m h = ap (λ s. then_spend s (λ _. spend t)) h
+
+-- a charge that doesn't fit
+pub unpaid : {Y A : Type 0} (view : Y → A) (r : Result Y Stop) (e : Stop) (m n line : ℕ) (t : Trace A) (l : ℕ) →
+    IsErrAnd r (λ y. y ≡ e) → Stops e m (pay n line l []) → Meets view r m (spend (Charges n line t) l [])
+unpaid view r e m n line t l h k = handed view r e m _ h (stop_then e m (pay n line l []) (λ _. spend t) k)

@@ -1,8 +1,16 @@
 -- What the evaluator answers, against a run under a budget. Nothing that it runs prints, so no lines are printed.
 use Rattle.std.specs.Prelude.{◌≡◌, ℕ, [], Result, Ok, Err}
 use Rattle.notebook_meaning.specs.Spending.{Spending, Got, Failed, Spent}
+use Rattle.py_value.specs.Faults.{kind_of}
+use Rattle.py_value.specs.declared.op_fault.OpFault.{OpFault}
+use Rattle.py_value.specs.declared.op_fault.OpFault.TheVariants as fault
 use Rattle.py_eval.specs.declared.meter.Stop.{Stop}
 use Rattle.py_eval.specs.declared.meter.Stop.TheVariants as stop
+
+-- why a run stops at a fault of an operation
+abbrev pub stop_of : OpFault → ℕ → Stop
+stop_of fault.Memory line = stop.Memory
+stop_of f line = stop.Fault (kind_of f) line
 
 -- a run that stopped with so much left, unless memory ran out
 abbrev pub Stops : {A : Type 0} → Stop → ℕ → Spending A → Type 0

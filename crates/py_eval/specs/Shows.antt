@@ -7,7 +7,7 @@ use Rattle.py_eval.specs.declared.run.Ran.{Ran}
 use Rattle.py_eval.specs.declared.scene.Scene.{Scene as Given}
 
 abbrev pub scene_of : Given → Scene
-scene_of s = record { own = s.own; present = s.present }
+scene_of s = record { own = s.own.now; present = s.present.now }
 
 -- the answer, and the bindings after it, show how the run went under the budget
 abbrev pub Shows : Ran → Env → ℕ → Spending Flow → Type 0

@@ -1,45 +1,65 @@
 // The values of expressions.
-ghost use Rattle.std.specs.Prelude.{ℕ, ◌<◌, ◌≤◌, [], IsTrue, OnOk};
-ghost use Rattle.notebook_meaning.specs.Meaning.{read, value_of, ranged_at};
+ghost use Rattle.std.specs.Prelude.{◌≡◌, ℕ, ◌<◌, ◌≤◌, [], ◌++◌, IsTrue, OnOk, codes};
+ghost use Rattle.std.specs.Str.{bytes_eq};
+ghost use Rattle.notebook_meaning.specs.Meaning.{read, value_of, values_after, result_at};
 ghost use Rattle.notebook_meaning.specs.Spending.{spend};
 ghost use Rattle.py_eval.specs.Meets.{Meets};
 ghost use Rattle.py_eval.specs.Shows.{scene_of};
-ghost use Rattle.py_tree.specs.Levels.{is_levelled};
-ghost use Rattle.py_tree.specs.View.{view};
+ghost use Rattle.py_tree.specs.Levels.{is_levelled, are_levelled_trees};
+ghost use Rattle.py_tree.specs.View.{view, views};
 ghost use Rattle.py_value.specs.Maps.{look_up};
 ghost use Rattle.py_value.specs.Whole.{sum_of};
 
-use crate::meter::{Stop, charge};
+use crate::elements::present_of;
+use crate::meter::{Stop, charge, stop_at, unknown_form};
 use crate::scene::{Env, Scene};
 use notebook_meaning::Binding;
-use py_tree::{Expr, literal_int};
-use py_value::{ErrorKind, Value, add};
+use py_tree::{Expr, Spelling, literal_int};
+use py_value::{ErrorKind, Value, add, copy};
+use std::alloc::Global;
 
-// A copy of what a name is bound to.
-fn read_name(env: &Env, name: &str, line: u32) -> Result<Value, Stop>
-    ensures { (left : ℕ) → Meets (λ v. v) result left (spend (read line (look_up name.now env.now)) left []) }
+// The value that a name is bound to.
+fn bound_value<'a>(env: &'a Env, name: &str, line: u32) -> Result<&'a Value, Stop>
+    ensures { (left : ℕ) → Meets (λ v. v.now) result left (spend (read line (look_up name.now env.now)) left []) }
 {
     match env.get(name) {
-        Some(Binding::Plain(Value::Int(n))) => Ok(Value::Int(*n)),
-        None => Err(Stop::Fault {
-            kind: ErrorKind::NameError,
-            line,
-        }),
+        Some(Binding::Plain(value)) => Ok(value),
+        Some(Binding::Module) => Err(unknown_form(line)),
+        None => {
+            Err(Stop::Fault {
+                kind: ErrorKind::NameError,
+                line,
+            })
+        }
     }
 }
 
-// The sum of two values, in range.
-fn sum(left: &Value, right: &Value, line: u32) -> Result<Value, Stop>
-    ensures { (rest : ℕ) → Meets (λ v. v) result rest (spend (ranged_at line (sum_of left.now right.now)) rest []) }
+// Whether an attribute is `.value`.
+fn is_value(name: &Spelling) -> bool
+    ensures { result ≡ bytes_eq name.now (codes "value") }
 {
-    add(left, right).ok_or(Stop::Fault {
-        kind: ErrorKind::IntRange,
-        line,
-    })
+    name.items() == "value"
+}
+
+// The sum of two values.
+fn sum(left: &Value, right: &Value, line: u32) -> Result<Value, Stop>
+    ensures { (rest : ℕ) → Meets (λ v. v) result rest (spend (result_at line (sum_of left.now right.now)) rest []) }
+{
+    match add(left, right) {
+        Ok(value) => Ok(value),
+        Err(fault) => Err(stop_at(fault, line)),
+    }
 }
 
 /// The value of an expression on a line, for which so many steps are left.
-pub fn eval(tree: &Expr, scene: &Scene, env: &Env, line: u32, left: &mut u64) -> Result<Value, Stop>
+pub fn eval(
+    alloc: Global,
+    tree: &Expr,
+    scene: &Scene,
+    env: &Env,
+    line: u32,
+    left: &mut u64,
+) -> Result<Value, Stop>
     requires { IsTrue (is_levelled (view tree.now)) }
     ensures meets { Meets (λ v. v) result left.new (spend (value_of (scene_of scene.now) env.now line (view tree.now)) left.old []) }
     ensures used { left.new ≤ left.old }
@@ -48,11 +68,39 @@ pub fn eval(tree: &Expr, scene: &Scene, env: &Env, line: u32, left: &mut u64) ->
     charge(left, 1, line)?;
     match tree {
         Expr::Literal(token) => Ok(Value::Int(literal_int(token))),
-        Expr::Name(name) => read_name(env, name.items(), line),
+        Expr::Name(name) => Ok(copy(alloc, bound_value(env, name.items(), line)?)?),
         Expr::Sum(a, b) => {
-            let x = eval(a.get(), scene, env, line, left)?;
-            let y = eval(b.get(), scene, env, line, left)?;
+            let x = eval(alloc, a.get(), scene, env, line, left)?;
+            let y = eval(alloc, b.get(), scene, env, line, left)?;
             sum(&x, &y, line)
         }
+        Expr::Attribute(base, name) => {
+            if is_value(name) {
+                let value = eval(alloc, base.get(), scene, env, line, left)?;
+                return present_of(alloc, scene, &value, line);
+            }
+            Err(unknown_form(line))
+        }
+        Expr::Call(_, _) => Err(unknown_form(line)),
     }
+}
+
+/// The values of expressions on a line, one after the other.
+pub fn eval_all(
+    alloc: Global,
+    trees: &[Expr],
+    scene: &Scene,
+    env: &Env,
+    line: u32,
+    left: &mut u64,
+) -> Result<Vec<Value>, Stop>
+    requires { IsTrue (are_levelled_trees (views trees.now)) }
+    ensures meets { Meets (λ vs. vs.items) result left.new (spend (values_after [] (scene_of scene.now) env.now line (views trees.now)) left.old []) }
+    ensures used { left.new ≤ left.old }
+{
+    let mut values = Vec::new(alloc);
+    for tree in trees {
+        values.push(eval(alloc, tree, scene, env, line, left)?)?;
+    }
+    Ok(values)
 }

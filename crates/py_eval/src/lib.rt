@@ -1,6 +1,7 @@
 //! The evaluator: runs of blocks under a budget of steps.
 #![tactic(auto)]
 
+mod elements;
 mod eval;
 mod lines;
 mod meter;

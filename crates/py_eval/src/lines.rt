@@ -1,24 +1,36 @@
 // The lines of a block.
 ghost use Rattle.std.specs.Prelude.{◌≡◌, ℕ, ◌≤◌, [], IsTrue, not};
-ghost use Rattle.notebook_meaning.specs.Meaning.{bind, head_of, block_of};
+ghost use Rattle.notebook_meaning.specs.Meaning.{bind, right_of, head_of, block_of};
+ghost use Rattle.notebook_meaning.specs.Meaning as meaning;
 ghost use Rattle.notebook_meaning.specs.Spending.{spend};
 ghost use Rattle.py_eval.specs.Meets.{Meets};
 ghost use Rattle.py_eval.specs.Shows.{scene_of};
-ghost use Rattle.py_tree.specs.Levels.{is_levelled_head, are_levelled};
+ghost use Rattle.py_tree.specs.Levels.{is_levelled, is_levelled_head, are_levelled};
 ghost use Rattle.py_tree.specs.Names.{is_among};
 ghost use Rattle.py_tree.specs.Scope.{head_binds, bound};
-ghost use Rattle.py_tree.specs.View.{view_head, view_stmts};
+ghost use Rattle.py_tree.specs.View.{view, view_head, view_stmts};
 ghost use Rattle.py_value.specs.Maps.{where_name};
 
+use crate::elements::called;
 use crate::eval::eval;
 use crate::meter::{Stop, charge};
 use crate::scene::{Env, Scene};
 use notebook_meaning::Binding;
-use py_tree::{Line, Spelling, Stmt};
+use py_tree::{Expr, Line, Spelling, Stmt};
 use py_value::{ErrorKind, Text, Value};
 use std::alloc::Global;
 
-// Binds the target of an assignment. A number can't be taken apart for several.
+// Why a value isn't taken apart for several targets.
+fn unpacking_fault(value: &Value) -> ErrorKind
+    ensures { result ≡ meaning.unpacking_fault value.now }
+{
+    match value {
+        Value::Text(_) | Value::List(_) | Value::Tuple(_) | Value::Dict(_) => ErrorKind::Subset,
+        _ => ErrorKind::TypeError,
+    }
+}
+
+// Binds the target of an assignment.
 fn bind_targets(
     alloc: Global,
     targets: &[Spelling],
@@ -31,13 +43,47 @@ fn bind_targets(
 {
     let [target] = targets else {
         return Err(Stop::Fault {
-            kind: ErrorKind::TypeError,
+            kind: unpacking_fault(&value),
             line,
         });
     };
     let name = Text::of(String::from_str(alloc, target.items())?);
     env.put(name, Binding::Plain(value))?;
     Ok(())
+}
+
+// The value of the right side of an assignment.
+fn right_side(
+    alloc: Global,
+    targets: &[Spelling],
+    tree: &Expr,
+    scene: &Scene,
+    env: &Env,
+    line: u32,
+    left: &mut u64,
+) -> Result<Value, Stop>
+    requires { IsTrue (is_levelled (view tree.now)) }
+    ensures meets { Meets (λ v. v) result left.new (spend (right_of (scene_of scene.now) env.now line targets.now (view tree.now)) left.old []) }
+    ensures used { left.new ≤ left.old }
+{
+    match tree {
+        Expr::Call(callee, arguments) => {
+            let arguments = arguments.items();
+            called(
+                alloc,
+                targets,
+                callee.get(),
+                arguments,
+                scene,
+                env,
+                line,
+                left,
+            )
+        }
+        Expr::Literal(_) | Expr::Name(_) | Expr::Sum(_, _) | Expr::Attribute(_, _) => {
+            eval(alloc, tree, scene, env, line, left)
+        }
+    }
 }
 
 // Runs a line after its own charge, and gives its value where it is an expression.
@@ -57,10 +103,16 @@ fn run_line(
     ensures used { left.new ≤ left.old }
 {
     match line {
-        Line::Value(tree) => Ok(Some(eval(tree, scene, env, number, left)?)),
+        Line::Value(tree) => Ok(Some(eval(alloc, tree, scene, env, number, left)?)),
         Line::Assign(targets, tree) => {
-            let value = eval(tree, scene, env, number, left)?;
-            bind_targets(alloc, targets.items(), value, number, env)?;
+            let names = targets.items();
+            let value = right_side(alloc, names, tree, scene, env, number, left)?;
+            bind_targets(alloc, names, value, number, env)?;
+            Ok(None)
+        }
+        Line::ImportMo => {
+            let name = Text::of(String::from_str(alloc, "mo")?);
+            env.put(name, Binding::Module)?;
             Ok(None)
         }
     }

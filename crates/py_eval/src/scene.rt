@@ -8,9 +8,9 @@ pub type Env = NameMap<Binding>;
 /// The present values of elements by their names.
 pub type Present = NameMap<Value>;
 
-/// Where a cell runs: the names of the elements that it creates, and the present values of the visitor's elements.
+/// Where a cell runs: the names of the elements that it creates, and the present values that are kept of the visitor's elements.
 #[derive(Drop)]
-pub struct Scene {
-    pub own: Lines,
-    pub present: Present,
+pub struct Scene<'a> {
+    pub own: &'a Lines,
+    pub present: &'a Present,
 }

@@ -3,7 +3,7 @@ use Rattle.std.specs.Prelude.{ℕ, Bool, true, false, ◌&&◌, nat_lt, List, []
 use Rattle.std.specs.List.{list_all}
 use Rattle.py_tree.specs.Names.{is_identifier}
 use Rattle.py_tree.specs.Numbers.{is_number}
-use Rattle.py_tree.specs.Trees.{Tree, literal, name, sum, Head, value, assign, stmt, Stmts, end, then_comes}
+use Rattle.py_tree.specs.Trees.{Tree, literal, name, sum, attribute, call, Trees, none, more, Head, value, assign, import_mo, stmt, Stmts, end, then_comes}
 use Rattle.py_tree.specs.declared.token.TokenKind.{TokenKind}
 use Rattle.py_tree.specs.declared.token.TokenKind.TheVariants as kind
 
@@ -12,6 +12,8 @@ abbrev pub level : Tree → ℕ
 level (literal token) = 11
 level (name x) = 11
 level (sum a b) = 6
+level (attribute base x) = 10
+level (call callee args) = 10
 
 -- a number, spelled as one
 abbrev pub is_literal : TokenKind → List ℕ → Bool
@@ -20,11 +22,19 @@ is_literal kind.Number spelling = is_number spelling
 is_literal kind.Mark spelling = false
 
 -- Each operand binds as tightly as its place asks for, each name is one and no keyword, and each literal is spelled as one.
--- A sum groups to the left: its right side binds more tightly than a sum.
-abbrev pub is_levelled : Tree → Bool
-is_levelled (literal token) = is_literal token.kind token.spelling
-is_levelled (name x) = is_identifier x
-is_levelled (sum a b) = is_levelled a && nat_lt 6 (level b) && is_levelled b
+-- A sum groups to the left: its right side binds more tightly than a sum. What stands before a dot or a bracket binds as tightly
+-- as these.
+abbrev mutual
+  pub is_levelled : Tree → Bool
+  is_levelled (literal token) = is_literal token.kind token.spelling
+  is_levelled (name x) = is_identifier x
+  is_levelled (sum a b) = is_levelled a && nat_lt 6 (level b) && is_levelled b
+  is_levelled (attribute base x) = is_levelled base && nat_lt 9 (level base) && is_identifier x
+  is_levelled (call callee args) = is_levelled callee && nat_lt 9 (level callee) && are_levelled_trees args
+
+  pub are_levelled_trees : Trees → Bool
+  are_levelled_trees none = true
+  are_levelled_trees (more t ts) = is_levelled t && are_levelled_trees ts
 
 -- one or more names
 abbrev pub are_targets : List (List ℕ) → Bool
@@ -34,6 +44,7 @@ are_targets (x ∷ xs) = list_all is_identifier (x ∷ xs)
 abbrev pub is_levelled_head : Head → Bool
 is_levelled_head (value t) = is_levelled t
 is_levelled_head (assign targets t) = are_targets targets && is_levelled t
+is_levelled_head import_mo = true
 
 abbrev pub are_levelled : Stmts → Bool
 are_levelled end = true

@@ -1,3 +1,4 @@
+pub mod Elements
 pub mod Levels
 pub mod Names
 pub mod Numbers

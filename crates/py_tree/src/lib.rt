@@ -1,12 +1,14 @@
 //! Tokens and trees of notebook code, and what they spell.
 #![tactic(auto)]
 
+mod element;
 mod lists;
 mod literal;
 mod row;
 mod token;
 mod tree;
 
+pub use element::ui_kind;
 pub use lists::{Spelling, Spellings};
 pub use literal::literal_int;
 pub use row::Row;

@@ -1,3 +1,16 @@
+pub mod Depth
+pub mod Dicts
+pub mod ElementData
+pub mod Elements
+pub mod Eq
+pub mod Falls
+pub mod Faults
+pub mod Keys
 pub mod Maps
 pub mod Named
+pub mod Quoted
+pub mod Size
+pub mod TextSamples
+pub mod Texts
+pub mod View
 pub mod Whole

@@ -1,22 +1,47 @@
--- Whole numbers of signed 128 bits.
-use Rattle.std.specs.Prelude.{ℕ, ◌^◌, ℤ, pos, negsuc, ◌+ℤ◌, Bool, nat_lt, List, Option, Some, None, cond}
+-- Whole numbers of signed 128 bits, and sums.
+use Rattle.std.specs.Prelude.{ℕ, ◌^◌, ℤ, pos, negsuc, ◌+ℤ◌, Bool, true, false, nat_lt, List, Option, Some, None, Result, Ok, Err, cond}
 use Rattle.std.specs.Fmt.{signed_decimal}
-use Rattle.py_value.specs.declared.values.Value.{Value}
-use Rattle.py_value.specs.declared.values.Value.TheVariants.{Int}
+use Rattle.py_value.specs.declared.types.Value.{Value}
+use Rattle.py_value.specs.declared.types.Value.TheVariants as V
+use Rattle.py_value.specs.declared.op_fault.OpFault.{OpFault}
+use Rattle.py_value.specs.declared.op_fault.OpFault.TheVariants.{WrongType, IntRange, Subset}
 
 -- the number is from -2^127 to 2^127 - 1
 abbrev pub in_range : ℤ → Bool
 in_range (pos n) = nat_lt n (2 ^ 127)
 in_range (negsuc n) = nat_lt n (2 ^ 127)
 
--- a number in the range, and none outside
-abbrev pub ranged : ℤ → Option Value
-ranged z = cond (in_range z) (Some (Int z)) None
+-- a number in the range, and a fault outside
+abbrev pub ranged : ℤ → Result Value OpFault
+ranged z = cond (in_range z) (Ok (V.Int z)) (Err IntRange)
 
--- `+`; none where the sum is out of the range
-abbrev pub sum_of : Value → Value → Option Value
-sum_of (Int x) (Int y) = ranged (x +ℤ y)
+-- the number that a truth value counts as (Python library reference, "Boolean Type")
+abbrev pub bit : Bool → ℤ
+bit true = pos 1
+bit false = pos 0
 
--- `str` of a value
-abbrev pub str : Value → List ℕ
-str (Int z) = signed_decimal z
+-- the number that an operand of arithmetic counts as; none where it isn't a number or a truth value
+abbrev pub number_of : Value → Option ℤ
+number_of (V.Bool b) = Some (bit b)
+number_of (V.Int n) = Some n
+number_of v = None
+
+-- why `+` refuses two operands that aren't both numbers. Python joins two texts, two lists and two tuples; the language that is run here doesn't yet
+abbrev pub joining_fault : Value → Value → OpFault
+joining_fault (V.Text s) (V.Text t) = Subset
+joining_fault (V.List xs) (V.List ys) = Subset
+joining_fault (V.Tuple xs) (V.Tuple ys) = Subset
+joining_fault v w = WrongType
+
+-- the sum of two numbers, and a fault where one of them is none
+abbrev pub sum_by : Option ℤ → Option ℤ → OpFault → Result Value OpFault
+sum_by (Some x) (Some y) fault = ranged (x +ℤ y)
+sum_by m n fault = Err fault
+
+-- `+` (Python language reference, section 6.7)
+abbrev pub sum_of : Value → Value → Result Value OpFault
+sum_of v w = sum_by (number_of v) (number_of w) (joining_fault v w)
+
+-- `str` of a whole number
+abbrev pub int_text : ℤ → List ℕ
+int_text z = signed_decimal z

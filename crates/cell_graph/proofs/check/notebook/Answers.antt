@@ -49,7 +49,7 @@ invariant_of-result c =
     let ordered = c.in_ok-ordered.ensures nb (search (arith, parents)) in
     let size = length-map c.args.cells.items view_cell in
     let full : length (order nb) ≡ length nb = omega (arith, ap length ordered, order_fits nb) in
-    (c.requires, search (arith, defined), search (arith, referenced), parents, ordered, c.in_ok-above.ensures.once nb defined, full_is_free nb full)
+    (c.requires, search (arith, defined), search (arith, referenced), search (arith, c.in_ok-created.ensures), parents, ordered, c.in_ok-above.ensures.once nb defined, full_is_free nb full)
 
 pub returns-clause-free : goal.returns-clause-free
 returns-clause-free c =

@@ -1,13 +1,16 @@
--- The lines so far, and that a body which the bytes begin with goes on with what is left.
+-- The lines so far, that a whole body which the bytes begin with goes on with what is left, and that no line stands beside one that
+-- stands alone.
+use Rattle.line_parser.specs.Elements.{as_elements}
 use Rattle.line_parser.specs.FileReading.{HasBody}
-use Rattle.line_parser.proofs.Bodies.{Continues}
+use Rattle.line_parser.proofs.Bodies.{Continues, IsKept}
 use Rattle.py_tree.specs.View.{view_stmts}
 use Rattle.line_parser.proofs.cells.body.Given as goal
 
 abbrev pub invariant-loop-stmts : goal.invariant-loop-stmts
 invariant-loop-stmts l = record {
-  found : HasBody l.fn.reader l.reader (view_stmts l.stmts.items);
-  continues : Continues l.fn.reader l.reader (view_stmts l.stmts.items);
+  found : HasBody (as_elements l.elements) l.fn.reader l.reader (view_stmts l.stmts.items);
+  continues : Continues (as_elements l.elements) l.fn.reader l.reader (view_stmts l.stmts.items);
+  kept : IsKept (view_stmts l.stmts.items) l.reader.bytes;
 }
 
 abbrev pub decreases-loop-stmts : goal.decreases-loop-stmts

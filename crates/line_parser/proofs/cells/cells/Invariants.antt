@@ -1,5 +1,6 @@
 -- The cells so far, that cells which the bytes begin with go on with what is left of them, and the place after the cells.
 use Rattle.std.specs.Prelude.{flat_map}
+use Rattle.line_parser.specs.Elements.{as_elements}
 use Rattle.line_parser.specs.FileReading.{HasCells}
 use Rattle.line_parser.proofs.Stops.{Led}
 use Rattle.line_parser.proofs.WholeCells.{Continues}
@@ -9,9 +10,9 @@ use Rattle.line_parser.proofs.cells.cells.Given as goal
 
 abbrev pub invariant-loop-cells : goal.invariant-loop-cells
 invariant-loop-cells l = record {
-  found : HasCells l.fn.reader l.reader (view_cells l.cells.items);
-  continues : Continues l.fn.reader l.reader (view_cells l.cells.items);
-  led : Led (flat_map cell_lines (view_cells l.cells.items)) l.reader.bytes;
+  found : HasCells (as_elements l.elements) l.fn.reader l.reader (view_cells l.cells.items);
+  continues : Continues (as_elements l.elements) l.fn.reader l.reader (view_cells l.cells.items);
+  led : Led (as_elements l.elements) (flat_map cell_lines (view_cells l.cells.items)) l.reader.bytes;
 }
 
 abbrev pub decreases-loop-cells : goal.decreases-loop-cells

@@ -1,5 +1,6 @@
 -- The refusals of some bytes.
 use Rattle.line_parser.proofs.OneRefusal.{none_refused, same_failure, same_refusal}
+use Rattle.line_parser.proofs.SomeRefusal.{some_failure}
 use Rattle.line_parser.proofs.laws.one_refusal.Goals as goal
 
 pub returns-clause-apart : goal.returns-clause-apart
@@ -7,6 +8,9 @@ returns-clause-apart c = none_refused
 
 pub returns-clause-line : goal.returns-clause-line
 returns-clause-line c = same_failure
+
+pub returns-clause-some : goal.returns-clause-some
+returns-clause-some c = some_failure
 
 pub returns-clause-once : goal.returns-clause-once
 returns-clause-once c = same_refusal

@@ -1,9 +1,10 @@
 -- Lines, files and the form.
-use Rattle.line_parser.proofs.OneToOne.{same_line, same_cells, same_form}
+use Rattle.line_parser.proofs.OneLine.{line_one}
+use Rattle.line_parser.proofs.OneToOne.{same_cells, same_form}
 use Rattle.line_parser.proofs.laws.printing_is_one_to_one.Goals as goal
 
 pub returns-clause-lines : goal.returns-clause-lines
-returns-clause-lines c = same_line
+returns-clause-lines c = line_one
 
 pub returns-clause-files : goal.returns-clause-files
 returns-clause-files c = same_cells

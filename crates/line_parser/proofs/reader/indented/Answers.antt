@@ -1,27 +1,21 @@
 -- The indent, then the bytes up to the first `\n`.
-use Rattle.std.proofs.Common.{◌≡◌, ◌++◌, [], ◌∷◌, ◌+◌, List, ℕ, Some, drop, take, ap, ◌∙◌, length, length-drop, arith, ◌-◌}
+use Rattle.std.proofs.Common.{◌≡◌, ◌++◌, [], ◌∷◌, List, ℕ, Option, Some, None, MatchOption, IsTrue, ap, ◌∙◌}
 use Rattle.std.proofs.lemmas.Bool.Decides.{Decides-eqb}
-use Rattle.std.proofs.lemmas.List.{take_all}
 use Rattle.std.proofs.lemmas.Slice.Eq.{strip_prefix_is}
-use Rattle.line_parser.proofs.Breaks.{cut_at, no_cut}
+use denote.Ref.{Bor}
+use Rattle.line_parser.specs.FileReading.{is_unbroken}
 use Rattle.line_parser.proofs.reader.indented.Goals as goal
 
 behind : (line text rest bytes : List ℕ) → bytes ≡ 32 ∷ 32 ∷ 32 ∷ 32 ∷ line → bytes ≡ 32 ∷ 32 ∷ 32 ∷ 32 ∷ (text ++ 10 ∷ rest) → line ≡ text ++ 10 ∷ rest
 behind line text rest bytes e f = cc
 
-pub returns-in_err-end : goal.returns-in_err-end
-returns-in_err-end c =
-    let bytes = c.args.bytes.now in
-    let line = c.in_ok-line.line in
-    let first = strip_prefix_is Decides-eqb bytes (32 ∷ 32 ∷ 32 ∷ 32 ∷ []) (Some line) c.in_ok-line.ensures.cases in
-    rw c.from_residual-in_err-end.ensures (λ text rest f. no_cut line.now text rest c.in_err-end.ensures (behind line.now text rest bytes first f))
+-- what is said of the bytes behind the indent is said of all of them
+with_indent : (bytes line : List ℕ) (r : Option (Bor (List ℕ) × Bor (List ℕ))) → bytes ≡ 32 ∷ 32 ∷ 32 ∷ 32 ∷ line → MatchOption r ((text rest : List ℕ) → line ≡ text ++ 10 ∷ rest → ⊥) (λ p. IsTrue (is_unbroken p.0.now) × (line ≡ p.0.now ++ 10 ∷ p.1.now)) → MatchOption r ((text rest : List ℕ) → bytes ≡ 32 ∷ 32 ∷ 32 ∷ 32 ∷ (text ++ 10 ∷ rest) → ⊥) (λ p. IsTrue (is_unbroken p.0.now) × (bytes ≡ 32 ∷ 32 ∷ 32 ∷ 32 ∷ (p.0.now ++ 10 ∷ p.1.now)))
+with_indent bytes line None e h = λ text rest f. h text rest (behind line text rest bytes e f)
+with_indent bytes line (Some p) e h = (h.0, e ∙ ap (λ l. 32 ∷ 32 ∷ 32 ∷ 32 ∷ l) h.1)
 
 pub returns : goal.returns
 returns c =
-    let bytes = c.args.bytes.now in
-    let line = c.in_ok-line.line in
-    let end = c.in_ok-end.end in
-    let first = strip_prefix_is Decides-eqb bytes (32 ∷ 32 ∷ 32 ∷ 32 ∷ []) (Some line) c.in_ok-line.ensures.cases in
-    let cut = cut_at line.now end c.in_ok-end.ensures in
-    let all : take (length line.now - (end + 1)) (drop (end + 1) line.now) ≡ drop (end + 1) line.now = take_all _ _ (omega (arith, length-drop (end + 1) line.now)) in
-    (cut.unbroken, rw all (first ∙ ap (λ l. 32 ∷ 32 ∷ 32 ∷ 32 ∷ l) cut.parts))
+    let line = c.in_ok-strip_prefix.field-0 in
+    let first = strip_prefix_is Decides-eqb c.args.bytes.now (32 ∷ 32 ∷ 32 ∷ 32 ∷ []) (Some line) c.in_ok-strip_prefix.ensures.cases in
+    with_indent c.args.bytes.now line.now c.whole_line.result first c.whole_line.ensures

@@ -6,4 +6,4 @@ use Rattle.py_tree.specs.declared.tree.CellCode.{CellCode}
 use Rattle.cell_graph.proofs.graph.Notebook.cells.Goals as goal
 
 pub returns-clause-free : goal.returns-clause-free
-returns-clause-free c = subst (λ (cells : List CellCode). NoneCyclic (view_cells cells)) c.self.view_is c.self.invariant.6
+returns-clause-free c = subst (λ (cells : List CellCode). NoneCyclic (view_cells cells)) c.self.view_is c.self.invariant.7

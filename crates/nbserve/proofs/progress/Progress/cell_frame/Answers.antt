@@ -9,7 +9,7 @@ use Rattle.py_value.specs.Maps.{where_name}
 use Rattle.nbserve.specs.Opened.{IsPlain, outcome_at, run_of}
 use Rattle.nbserve.proofs.Cells.{plain_after, plain_without, removed_again}
 use Rattle.nbserve.proofs.Outcomes.{on_ok_then, if_ok_each}
-use Rattle.nbserve.proofs.Steps.{code_at, one_code, parents_flagged, may_run, defs_are, cancelled_outcome, ran_outcome}
+use Rattle.nbserve.proofs.Steps.{code_at, one_code, parents_flagged, may_run, defs_are, elements_are, cancelled_outcome, ran_outcome}
 use Rattle.nbserve.proofs.ThinCode.{thin_good}
 use Rattle.nbserve.proofs.progress.Progress.cell_frame.Goals as goal
 
@@ -53,6 +53,11 @@ pub run_cell-requires-clause-defs : goal.run_cell-requires-clause-defs
 run_cell-requires-clause-defs g c =
     let at = code_at c.args.notebook.now c.args.cell c.index-cells-cell.result c.requires.there (c.index-cells-cell.is ∙ ap (λ xs. get_or xs c.args.cell c.index-cells-cell.result) c.cells.ensures.cells) in
     c.defs_of-defs.ensures ∙ defs_are (view_cells c.args.notebook.now) c.args.cell (view_cell c.index-cells-cell.result) at
+
+pub run_cell-requires-clause-own : goal.run_cell-requires-clause-own
+run_cell-requires-clause-own g c =
+    let at = code_at c.args.notebook.now c.args.cell c.index-cells-cell.result c.requires.there (c.index-cells-cell.is ∙ ap (λ xs. get_or xs c.args.cell c.index-cells-cell.result) c.cells.ensures.cells) in
+    c.elements_of-own.ensures ∙ elements_are (view_cells c.args.notebook.now) c.args.cell (view_cell c.index-cells-cell.result) at
 
 pub run_cell-requires-clause-removed : goal.run_cell-requires-clause-removed
 run_cell-requires-clause-removed g c =

@@ -1,0 +1,35 @@
+-- The worked notebook with a slider is computed.
+use Rattle.std.proofs.Common.{zero, suc, refl, lit≤}
+use Rattle.std.specs.Fmt.{digits}
+use Rattle.notebook_meaning.specs.Graph.{NoneDoubled}
+use Rattle.notebook_meaning.specs.Samples.{with_slider}
+use Rattle.notebook_meaning.specs.Spending.{pay, show}
+use Rattle.notebook_meaning.proofs.Orders.{full_is_free}
+use Rattle.notebook_meaning.proofs.Sliders.{same_text, a_number, a_text}
+use Rattle.notebook_meaning.proofs.laws.worked_slider.Goals as goal
+
+none_doubled : NoneDoubled with_slider
+none_doubled zero = refl
+none_doubled (suc zero) = refl
+none_doubled (suc (suc zero)) = refl
+none_doubled (suc (suc (suc c))) = refl
+
+pub returns-clause-accepted : goal.returns-clause-accepted
+returns-clause-accepted c =
+    record { form = record { thin = refl; text = refl; short = lit≤ tt }; once = none_doubled; free = full_is_free with_slider refl }
+
+pub returns-clause-text : goal.returns-clause-text
+unfolding digits pay show
+returns-clause-text c = simp (same_text, a_number, a_text)
+
+pub returns-clause-costs : goal.returns-clause-costs
+unfolding pay show
+returns-clause-costs c = simp (same_text, a_number, a_text)
+
+pub returns-clause-present : goal.returns-clause-present
+unfolding digits pay show
+returns-clause-present c = simp (same_text, a_number, a_text)
+
+pub returns-clause-own : goal.returns-clause-own
+unfolding pay show
+returns-clause-own c e h = rw h refl

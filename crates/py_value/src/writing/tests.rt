@@ -1,0 +1,158 @@
+// Texts of values. What is wanted is what Python 3.11 writes for the same values.
+//
+// A value that is dropped where a call may fail has a case of its own in the proof for each type, so values are handed on at once.
+use super::*;
+use crate::kinds::Kind;
+use crate::op_fault::OpFault;
+use crate::types::{Pairs, Values, discard};
+use std::alloc::AllocError;
+use std::test::Fail;
+
+fn text(alloc: Global, of: &str) -> Result<Value, AllocError> {
+    Ok(Value::Text(Text::of(String::from_str(alloc, of)?)))
+}
+
+fn list(items: Vec<Value>) -> Value {
+    Value::List(Values::of(items))
+}
+
+fn tuple(items: Vec<Value>) -> Value {
+    Value::Tuple(Values::of(items))
+}
+
+// The items, and one after them.
+fn and(items: Vec<Value>, item: Value) -> Result<Vec<Value>, Memory> {
+    let mut items = items;
+    items.push(item)?;
+    Ok(items)
+}
+
+// The pairs, and one after them whose key is a text.
+fn and_pair(alloc: Global, pairs: Pairs, key: &str, item: Value) -> Result<Pairs, OpFault> {
+    let mut pairs = pairs;
+    match text(alloc, key) {
+        Ok(key) => pairs.put(alloc, key, item)?,
+        Err(_) => discard(item),
+    }
+    Ok(pairs)
+}
+
+fn both_of(alloc: Global, v: &Value) -> Result<Text, Memory> {
+    let mut out = Text::new(alloc);
+    write_repr(alloc, v, &mut out)?;
+    out.push_str(" | ")?;
+    write_str(alloc, v, &mut out)?;
+    Ok(out)
+}
+
+// The value's `repr`, and its `str` after it.
+fn both(alloc: Global, v: Value) -> Result<Text, Memory> {
+    let out = both_of(alloc, &v);
+    discard(v);
+    out
+}
+
+#[test]
+fn writes_literals(rt: HostRuntime) -> Result<(), Fail> {
+    for (of, wanted) in [
+        ("", "''"),
+        ("it's", "\"it's\""),
+        ("a\"b", "'a\"b'"),
+        ("it's \"x\"", "'it\\'s \"x\"'"),
+        ("back\\slash", "'back\\\\slash'"),
+        ("\n\r\t", "'\\n\\r\\t'"),
+        ("\x00\x01\x1f \x7e\x7f", "'\\x00\\x01\\x1f ~\\x7f'"),
+        ("é猫", "'é猫'"),
+        ("\x1b[0m é' \x7f", "\"\\x1b[0m é' \\x7f\""),
+    ] {
+        let wanted = format!(in rt.alloc(); "{wanted} | {of}")?;
+        assert_eq!(rt;
+            both(rt.alloc(), text(rt.alloc(), of)?)?.items(),
+            wanted.as_str()
+        );
+    }
+    Ok(())
+}
+
+#[test]
+fn writes_numbers(rt: HostRuntime) -> Result<(), Fail> {
+    for (number, wanted) in [
+        (0, "0 | 0"),
+        (-1, "-1 | -1"),
+        (10, "10 | 10"),
+        (
+            i128::MIN,
+            "-170141183460469231731687303715884105728 | -170141183460469231731687303715884105728",
+        ),
+        (
+            i128::MAX,
+            "170141183460469231731687303715884105727 | 170141183460469231731687303715884105727",
+        ),
+    ] {
+        assert_eq!(rt; both(rt.alloc(), Value::Int(number))?.items(), wanted);
+    }
+    Ok(())
+}
+
+#[test]
+fn writes_lists_and_tuples(rt: HostRuntime) -> Result<(), Fail> {
+    let alloc = rt.alloc();
+    assert_eq!(rt; both(alloc, list(Vec::new(alloc)))?.items(), "[] | []");
+    assert_eq!(rt; both(alloc, tuple(Vec::new(alloc)))?.items(), "() | ()");
+    let one = and(Vec::new(alloc), Value::Int(1))?;
+    let two = and(and(Vec::new(alloc), tuple(one))?, Value::Bool(true))?;
+    let nested = and(and(Vec::new(alloc), list(two))?, text(alloc, "é'")?)?;
+    let wanted = "([(1,), True], \"é'\", None, False) | ([(1,), True], \"é'\", None, False)";
+    let nested = and(and(nested, Value::None)?, Value::Bool(false))?;
+    assert_eq!(rt; both(alloc, tuple(nested))?.items(), wanted);
+    Ok(())
+}
+
+#[test]
+fn writes_dictionaries(rt: HostRuntime) -> Result<(), Fail> {
+    let alloc = rt.alloc();
+    assert_eq!(rt;
+        both(alloc, Value::Dict(Pairs::new(alloc)))?.items(),
+        "{} | {}"
+    );
+    let inner = and_pair(alloc, Pairs::new(alloc), "a'", Value::Int(-2))?;
+    let outer = and_pair(alloc, Pairs::new(alloc), "", Value::Dict(inner))?;
+    let outer = and_pair(alloc, outer, "b\n", list(Vec::new(alloc)))?;
+    let wanted = "{'': {\"a'\": -2}, 'b\\n': []} | {'': {\"a'\": -2}, 'b\\n': []}";
+    assert_eq!(rt; both(alloc, Value::Dict(outer))?.items(), wanted);
+    Ok(())
+}
+
+// The form of elements is this language's own, and Python has none.
+#[test]
+fn writes_elements(rt: HostRuntime) -> Result<(), Fail> {
+    let alloc = rt.alloc();
+    let params = and_pair(alloc, Pairs::new(alloc), "rows", Value::Int(3))?;
+    let params = and_pair(alloc, params, "label", text(alloc, "it's")?)?;
+    let name = Text::of(String::from_str(alloc, "t")?);
+    let e = Element::new(
+        alloc,
+        Kind::TextArea,
+        name,
+        params,
+        Value::None,
+        Value::None,
+    )?;
+    let mut out = Text::new(alloc);
+    out.push_str("is ")?;
+    write_element(alloc, &e, &mut out)?;
+    assert_eq!(rt; out.items(), "is <text_area t rows=3 label=\"it's\">");
+    let wanted = "<text_area t rows=3 label=\"it's\"> | <text_area t rows=3 label=\"it's\">";
+    assert_eq!(rt; both(alloc, Value::Element(e))?.items(), wanted);
+    Ok(())
+}
+
+#[test]
+fn writes_html(rt: HostRuntime) -> Result<(), Fail> {
+    let html = Value::Html(Text::of(String::from_str(rt.alloc(), "<b>it's</b>")?));
+    assert_eq!(rt;
+        both(rt.alloc(), html)?.items(),
+        "<b>it's</b> | <b>it's</b>"
+    );
+    Ok(())
+}

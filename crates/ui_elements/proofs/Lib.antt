@@ -1,0 +1,6 @@
+pub mod Computes
+pub mod Fills
+pub mod Gaps
+pub mod Keys
+pub mod Names
+pub mod SliderLaws

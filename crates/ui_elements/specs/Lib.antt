@@ -1,0 +1,5 @@
+pub mod Admits
+pub mod Calls
+pub mod Ranges
+pub mod Samples
+pub mod Wanting
