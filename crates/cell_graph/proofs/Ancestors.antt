@@ -1,15 +1,13 @@
 -- Cells that are marked as those above a cell, and chains that lead to it.
 use Rattle.std.proofs.Common.{◌≡◌, ℕ, ◌+◌, ◌<◌, ◌≤◌, Bool, true, false, cond, not, ◌&&◌, ◌||◌, ◌==◌, ◌⊎◌, inl, inr, ⊎_elim, List, [], ◌∷◌, ◌++◌, length, get_or, take, filter, refl, sym, ap, ◌∙◌, subst, arith}
-use Rattle.std.specs.List.{list_any}
 use Rattle.std.proofs.lemmas.Bool.{both_ways, cases_Bool, cases_eq, cases_lt, eq-eqb, eqb-true, ne_eqb, or_cases, or_left, or_right, and_parts, and_from, not_from_false, false_from_ne_true}
 use Rattle.std.proofs.lemmas.List.{take_more, take_all, get_or_past, length-take-le, append-nil}
 use Rattle.std.proofs.lemmas.List.Elements.{filter-append}
-use Rattle.std.proofs.lemmas.Option.{slice_get-get_or, slice_get_past}
-use Rattle.py_tree.specs.Scope.{refs}
-use Rattle.py_tree.specs.Names.{is_among}
+use Rattle.std.proofs.lemmas.Option.{slice_get-get_or}
 use Rattle.py_tree.specs.Trees.{Cell}
-use Rattle.notebook_meaning.specs.Graph.{names_at, defs_of, refs_of, edge, numbers_from, all_cells, is_in, parents, IsChain, LiesOnCycle, AreCyclic}
-use Rattle.notebook_meaning.proofs.Orders.{from_cell, on_cycle_below}
+use Rattle.notebook_meaning.specs.Graph.{edge, numbers_from, is_in, parents, IsChain, LiesOnCycle, AreCyclic}
+use Rattle.notebook_meaning.proofs.Orders.{to_cell, on_cycle_below}
+use Rattle.notebook_meaning.proofs.Reaching.{parent_by, edge_by}
 use Rattle.cell_graph.specs.Counts.{list_in}
 use Rattle.cell_graph.specs.Kept.{AreParents}
 use Rattle.cell_graph.specs.Marks.{is_marked}
@@ -107,58 +105,19 @@ module _ (above : List (List ℕ)) (c : ℕ) (marked : List Bool) (rest : List �
 
 -- ---- chains of cells
 
--- a number that a filter keeps passes its test
-passes : (p : ℕ → Bool) (cs : List ℕ) (c : ℕ) → is_in c (filter p cs) ≡ true → p c ≡ true
-passes p [] c h = absurd (both_ways false refl h)
-passes p (d ∷ ds) c h = ⊎_elim
-    (λ on. ⊎_elim
-    (λ same. sym (ap p (eqb-true d c same)) ∙ on)
-    (λ later. passes p ds c later)
-    (or_cases (d == c) _ (sym (ap (λ b. is_in c (cond b (d ∷ filter p ds) (filter p ds))) on) ∙ h)))
-    (λ off. passes p ds c (sym (ap (λ b. is_in c (cond b (d ∷ filter p ds) (filter p ds))) off) ∙ h))
-    (cases_Bool (p d))
-
--- a number that passes the test is kept
-is_kept : {X : Type 0} (p : ℕ → Bool) (n : ℕ) (xs : List X) (c : ℕ) → n ≤ c → c < n + length xs → p c ≡ true → is_in c (filter p (numbers_from n xs)) ≡ true
-is_kept p n [] c low high on = absurd (omega arith)
-is_kept p n (x ∷ xs) c low high on = ⊎_elim
-    (λ same.
-    ap (λ b. is_in c (cond b (n ∷ filter p (numbers_from (n + 1) xs)) (filter p (numbers_from (n + 1) xs)))) (ap p same ∙ on)
-    ∙ or_left _ _ (eq-eqb n c same))
-    (λ apart. later (p n) (is_kept p (n + 1) xs c (omega arith) (omega arith) on))
-    (cases_eq n c)
-  where
-    later : (b : Bool) → is_in c (filter p (numbers_from (n + 1) xs)) ≡ true
-        → is_in c (cond b (n ∷ filter p (numbers_from (n + 1) xs)) (filter p (numbers_from (n + 1) xs))) ≡ true
-    later true h = or_right (n == c) _ h
-    later false h = h
-
--- an edge leads to a cell
-to_cell : (nb : List Cell) (a b : ℕ) → edge nb a b ≡ true → b < length nb
-to_cell nb a b h = ⊎_elim
-    (λ below. below)
-    (λ past.
-    let none : refs_of nb b ≡ [] = ap (names_at refs) (slice_get_past nb b past) in
-    let bad : edge nb a b ≡ false = ap (list_any (λ x. is_among x (defs_of nb a))) none in
-    absurd (both_ways _ bad h))
-    (cases_lt b (length nb))
-
 module _ (nb : List Cell) (above : List (List ℕ)) (kept : AreParents nb above) where
   kept_at : (c : ℕ) → c < length above → list_in above c ≡ parents nb c
   kept_at c lt = kept.each c (list_in above c) (slice_get-get_or above c [] lt)
 
   -- the cells in the lists are those from which edges go
-  edge_from : (a b : ℕ) → is_in a (list_in above b) ≡ true → edge nb a b ≡ true
+  pub edge_from : (a b : ℕ) → is_in a (list_in above b) ≡ true → edge nb a b ≡ true
   edge_from a b h = ⊎_elim
-      (λ below. passes (λ d. edge nb d b) (all_cells nb) a (sym (ap (is_in a) (kept_at b below)) ∙ h))
+      (λ below. edge_by nb a b (sym (ap (is_in a) (kept_at b below)) ∙ h))
       (λ past. absurd (both_ways false refl (sym (ap (is_in a) (past_all above b past)) ∙ h)))
       (cases_lt b (length above))
 
-  in_list : (a b : ℕ) → edge nb a b ≡ true → is_in a (list_in above b) ≡ true
-  in_list a b h =
-      let low = from_cell nb a b h in
-      let high = to_cell nb a b h in
-      ap (is_in a) (kept_at b (omega (arith, kept.count))) ∙ is_kept (λ d. edge nb d b) 0 nb a (omega arith) (omega arith) h
+  pub in_list : (a b : ℕ) → edge nb a b ≡ true → is_in a (list_in above b) ≡ true
+  in_list a b h = let low = to_cell nb a b h in ap (is_in a) (kept_at b (omega (arith, kept.count))) ∙ parent_by nb a b h
 
   chain_from : (a : ℕ) (between : List ℕ) (c : ℕ) → Leads above a between c → IsChain nb (a ∷ between ++ c ∷ [])
   chain_from a [] c leads = (edge_from a c leads, tt)

@@ -42,7 +42,7 @@ within lists x a h = ⊎_elim
     (λ past. absurd (both_ways false refl (sym (ap (is_among x) (nowhere lists a past)) ∙ h)))
     (cases_lt a (length lists))
 
-among_last : (x y : Name) (xs : List Name) → is_among y (xs ++ x ∷ []) ≡ (is_among y xs || (bytes_eq x y || false))
+pub among_last : (x y : Name) (xs : List Name) → is_among y (xs ++ x ∷ []) ≡ (is_among y xs || (bytes_eq x y || false))
 among_last x y xs = list_any-append (λ o. bytes_eq o y) xs (x ∷ [])
 
 is_itself : (x : Name) → bytes_eq x x ≡ true

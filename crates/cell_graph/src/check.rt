@@ -7,11 +7,14 @@ ghost use Rattle.py_tree.specs.View.{view_cells};
 
 use crate::ancestry::all_parents;
 use crate::cell_names::{defs, refs};
+use crate::cell_places::places_of;
+use crate::children::children;
 use crate::created::elements;
 use crate::cycles::cyclic_cells;
 use crate::fault::GraphFault;
 use crate::graph::Notebook;
 use crate::order::order_of;
+use crate::readers::readers;
 use py_tree::CellCode;
 use py_value::{Lines, Memory};
 use std::alloc::Global;
@@ -28,20 +31,26 @@ pub fn notebook(alloc: Global, cells: Vec<CellCode>) -> Result<Notebook, GraphFa
     let defined = all_defs(alloc, cells.as_slice())?;
     let referenced = all_refs(alloc, cells.as_slice())?;
     let above = all_parents(alloc, defined.as_slice(), referenced.as_slice())?;
-    let ordered = order_of(alloc, above.as_slice())?;
+    let below = children(alloc, above.as_slice())?;
+    let ordered = order_of(alloc, above.as_slice(), below.as_slice())?;
     if ordered.len() < cells.len() {
         return Err(GraphFault::Cycle {
             cells: cyclic_cells(alloc, above.as_slice())?,
         });
     }
     let created = all_elements(alloc, cells.as_slice())?;
+    let places = places_of(alloc, ordered.as_slice())?;
+    let readers = readers(alloc, referenced.as_slice())?;
     Ok(Notebook {
         cells,
         defined,
         referenced,
         created,
         above,
+        below,
         ordered,
+        places,
+        readers,
     })
 }
 

@@ -1,11 +1,15 @@
 // Notebooks with their graph.
-ghost use Rattle.std.specs.Prelude.{◌≡◌, ℕ, ◌<◌, IsTrue, length};
+ghost use Rattle.std.specs.Prelude.{◌≡◌, ℕ, ◌<◌, IsTrue, IfOk, length};
 ghost use Rattle.notebook_meaning.specs.Graph as graph;
+ghost use Rattle.notebook_meaning.specs.Reruns.{rerun};
 ghost use Rattle.py_tree.specs.View.{view_cells};
 
 use crate::cell_list::CellList;
+use crate::readers::Readers;
+use crate::reruns::{add_places, reading};
 use py_tree::CellCode;
-use py_value::Lines;
+use py_value::{Lines, Memory};
+use std::alloc::Global;
 use std::marker::Model;
 
 /// A notebook: cells with their graph. No name is defined in two of them, and none of them lies on a cycle. Contracts see it as
@@ -17,7 +21,10 @@ pub struct Notebook {
     pub(crate) referenced: Vec<Lines>,
     pub(crate) created: Vec<Lines>,
     pub(crate) above: Vec<CellList>,
+    pub(crate) below: Vec<CellList>,
     pub(crate) ordered: Vec<u32>,
+    pub(crate) places: Vec<u32>,
+    pub(crate) readers: Readers,
 }
 
 impl Model for Notebook {
@@ -26,6 +33,9 @@ impl Model for Notebook {
     ghost use Rattle.py_tree.specs.contracts.tree.Block as block;
     ghost use Rattle.py_tree.specs.declared.tree.CellCode.{CellCode};
     ghost use Rattle.py_tree.specs.View.{view_cells};
+    ghost use Rattle.cell_graph.specs.Counts.{AreTurned};
+    ghost use Rattle.cell_graph.specs.Places.{ArePlaced};
+    ghost use Rattle.cell_graph.specs.Readers.{HasReaders};
     ghost use Rattle.cell_graph.specs.Kept.{AreDefs, AreRefs, AreElements, AreParents};
     ghost use Rattle.notebook_meaning.specs.Graph as graph;
 
@@ -39,7 +49,9 @@ impl Model for Notebook {
         × AreRefs (view_cells nb.cells.items) nb.referenced.items
         × AreElements (view_cells nb.cells.items) nb.created.items
         × AreParents (view_cells nb.cells.items) nb.above.items × (nb.ordered.items ≡ graph.order (view_cells nb.cells.items))
-        × graph.NoneDoubled (view_cells nb.cells.items) × graph.NoneCyclic (view_cells nb.cells.items) };
+        × graph.NoneDoubled (view_cells nb.cells.items) × graph.NoneCyclic (view_cells nb.cells.items)
+        × AreTurned nb.above.items nb.below.items × ArePlaced nb.ordered.items nb.places.items nb.below.items
+        × HasReaders nb.referenced.items nb.readers };
 }
 
 impl Notebook {
@@ -91,5 +103,22 @@ impl Notebook {
         ensures every { (c : ℕ) → c < length self.now → IsTrue (graph.is_in c result.now) }
     {
         self.ordered.as_slice()
+    }
+
+    /// The cells that run again when these names change, in the order: those that reference one of them, and all behind these. The
+    /// first cell that waits is always taken, so that all that lead to a cell are taken before it. Only these cells and the edges
+    /// from them are looked at.
+    pub fn rerun(&self, alloc: Global, names: &Lines) -> Result<CellList, Memory>
+        ensures { IfOk result (λ cells. cells ≡ rerun (view_cells self.now) names.now) }
+    {
+        let places = self.places.as_slice();
+        let mut pending = reading(alloc, &self.readers, places, names.items())?;
+        let mut listed = Vec::new(alloc);
+        while let Some(place) = pending.pop_first() {
+            let cell = self.ordered[place as usize];
+            listed.push(cell)?;
+            add_places(&mut pending, places, self.below[cell as usize].items())?;
+        }
+        Ok(CellList::of(listed))
     }
 }

@@ -1,10 +1,11 @@
 //! The graph of a notebook's cells: the names that they define and reference, their parents and their order; names that are defined
-//! again, and cells on cycles.
+//! again, cells on cycles, and cells that run again.
 #![tactic(auto)]
 
 mod ancestry;
 mod cell_list;
 mod cell_names;
+mod cell_places;
 mod check;
 mod children;
 mod created;
@@ -16,6 +17,8 @@ mod graph;
 mod name_set;
 mod occurrences;
 mod order;
+mod readers;
+mod reruns;
 mod waits;
 
 pub use cell_list::CellList;

@@ -1,7 +1,7 @@
 // Small notebooks: a cell is given by the name that it binds and the names that it adds up.
 use crate::{GraphFault, defs, notebook, refs};
 use py_tree::{Block, CellCode, Expr, Line, Spelling, Spellings, Stmt, Token, TokenKind};
-use py_value::{Lines, Memory};
+use py_value::{Lines, Memory, Text};
 use sqlite_items::Boxed;
 use std::alloc::Global;
 use std::test::Fail;
@@ -206,6 +206,46 @@ fn accepts_own_name(rt: HostRuntime) -> Result<(), Fail> {
     match notebook(rt.alloc(), cells) {
         Ok(nb) => assert_eq!(rt; nb.order(), [0, 1].as_slice()),
         Err(_) => panic!(rt; "refused"),
+    }
+    Ok(())
+}
+
+// these names
+fn lines(alloc: Global, names: &[&str]) -> Result<Lines, Memory> {
+    let mut all = Vec::new(alloc);
+    for name in names {
+        all.push(Text::of(String::from_str(alloc, *name)?))?;
+    }
+    Ok(Lines::of(all))
+}
+
+#[test]
+fn runs_cells_again(rt: HostRuntime) -> Result<(), Fail> {
+    let diamond: &[Row] = &[("d", &["c", "b"]), ("b", &["a"]), ("c", &["a"]), ("a", &[])];
+    let chain: &[Row] = &[("c", &["b"]), ("b", &["a"]), ("a", &[]), ("z", &[])];
+    let two: &[Row] = &[
+        ("p", &["y"]),
+        ("q", &["x"]),
+        ("r", &["q"]),
+        ("s", &["p", "x"]),
+    ];
+    for (rows, names, wanted) in [
+        (diamond, ["a"].as_slice(), [1, 2, 0].as_slice()),
+        (diamond, &["c"], &[0]),
+        (chain, &["a"], &[1, 0]),
+        (chain, &["a", "b"], &[1, 0]),
+        (chain, &["z", "c", "none"], &[]),
+        (two, &["x"], &[1, 2, 3]),
+        (two, &["y", "q"], &[0, 2, 3]),
+        (two, &[], &[]),
+    ] {
+        let cells = cells(rt.alloc(), rows)?;
+        assert!(rt; cells.len() < 10);
+        let names = lines(rt.alloc(), names)?;
+        match notebook(rt.alloc(), cells) {
+            Ok(nb) => assert_eq!(rt; nb.rerun(rt.alloc(), &names)?.items(), wanted),
+            Err(_) => panic!(rt; "refused"),
+        }
     }
     Ok(())
 }

@@ -9,14 +9,14 @@ use Rattle.std.proofs.lemmas.Map.Keys.{IsDistinct-push}
 use Rattle.std.proofs.lemmas.Map.Steps.{length-le_from_distinct_below, le-length_from_below}
 use Rattle.std.proofs.lemmas.Option.{slice_get_past}
 use Rattle.py_tree.specs.Names.{Name, is_among}
-use Rattle.py_tree.specs.Scope.{defs}
+use Rattle.py_tree.specs.Scope.{defs, refs}
 use Rattle.py_tree.specs.Trees.{Cell}
 use Rattle.notebook_meaning.specs.Graph.{names_at, defs_of, refs_of, edge, numbers_from, all_cells, is_in, IsChain, LiesOnCycle, is_ready, next_cell, with_next, places, order, NoneCyclic}
 
 -- ---- numbers in lists
 
 -- the two ways to test whether a number is in a list
-same_test : (c : ℕ) (cs : List ℕ) → list_any (eqb c) cs ≡ is_in c cs
+pub same_test : (c : ℕ) (cs : List ℕ) → list_any (eqb c) cs ≡ is_in c cs
 same_test c [] = refl
 same_test c (d ∷ ds) = ap (λ b. b || list_any (eqb c) ds) (nat_eq_equiv.symm c d) ∙ ap (λ b. eqb d c || b) (same_test c ds)
 
@@ -34,11 +34,11 @@ numbers_below n (x ∷ xs) c h = ⊎_elim
     (λ later. let below = numbers_below (n + 1) xs c later in omega arith)
     (or_cases (n == c) _ h)
 
-in_more : (c d : ℕ) (cs : List ℕ) → is_in c cs ≡ true → is_in c (cs ++ d ∷ []) ≡ true
+pub in_more : (c d : ℕ) (cs : List ℕ) → is_in c cs ≡ true → is_in c (cs ++ d ∷ []) ≡ true
 in_more c d cs h = list_any-append (λ x. x == c) cs (d ∷ []) ∙ or_left _ _ h
 
 -- what is in a list with one more number
-in_more_cases : (c d : ℕ) (cs : List ℕ) → is_in c (cs ++ d ∷ []) ≡ true → (is_in c cs ≡ true) ⊎ (d ≡ c)
+pub in_more_cases : (c d : ℕ) (cs : List ℕ) → is_in c (cs ++ d ∷ []) ≡ true → (is_in c cs ≡ true) ⊎ (d ≡ c)
 in_more_cases c d cs h = ⊎_elim
     (λ front. inl front)
     (λ back. ⊎_elim (λ same. inr (eqb-true d c same)) (λ no. absurd (both_ways false refl no)) (or_cases (d == c) false back))
@@ -110,6 +110,16 @@ from_cell nb a b h = ⊎_elim
     absurd (both_ways _ bad h))
     (cases_lt a (length nb))
 
+-- an edge ends at a cell
+pub to_cell : (nb : List Cell) (a b : ℕ) → edge nb a b ≡ true → b < length nb
+to_cell nb a b h = ⊎_elim
+    (λ below. below)
+    (λ past.
+    let none : refs_of nb b ≡ [] = ap (names_at refs) (slice_get_past nb b past) in
+    let bad : edge nb a b ≡ false = ap (list_any (λ x. is_among x (defs_of nb a))) none in
+    absurd (both_ways _ bad h))
+    (cases_lt b (length nb))
+
 chain_below : (nb : List Cell) (a : ℕ) (between : List ℕ) (c : ℕ) → IsChain nb (a ∷ between ++ c ∷ []) → a < length nb
 chain_below nb a [] c chain = from_cell nb a c chain.0
 chain_below nb a (b ∷ bs) c chain = from_cell nb a b chain.0
@@ -118,14 +128,14 @@ chain_below nb a (b ∷ bs) c chain = from_cell nb a b chain.0
 pub on_cycle_below : (nb : List Cell) (c : ℕ) → LiesOnCycle nb c → c < length nb
 on_cycle_below nb c cycle = chain_below nb c cycle.0 c cycle.1
 
-is_cell_number : (nb : List Cell) (c : ℕ) → c < length nb → is_in c (all_cells nb) ≡ true
+pub is_cell_number : (nb : List Cell) (c : ℕ) → c < length nb → is_in c (all_cells nb) ≡ true
 is_cell_number nb c h = numbered 0 nb c (omega arith) (omega arith)
 
-cell_number_below : (nb : List Cell) (c : ℕ) → is_in c (all_cells nb) ≡ true → c < length nb
+pub cell_number_below : (nb : List Cell) (c : ℕ) → is_in c (all_cells nb) ≡ true → c < length nb
 cell_number_below nb c h = let below = numbers_below 0 nb c h in omega arith
 
 -- each parent of a cell that is ready is listed
-parent_listed : (nb : List Cell) (listed : List ℕ) (a b : ℕ) → is_ready nb listed b ≡ true → edge nb a b ≡ true
+pub parent_listed : (nb : List Cell) (listed : List ℕ) (a b : ℕ) → is_ready nb listed b ≡ true → edge nb a b ≡ true
     → is_in a listed ≡ true
 parent_listed nb listed a b ready e =
     let parts = and_parts (not (is_in b listed)) _ ready in
@@ -142,7 +152,7 @@ parent_unlisted nb listed b unready absent = ⊎_elim
 -- ---- the first places
 
 -- the cell found for the next place, where there is one
-next_found : (nb : List Cell) (listed : List ℕ) (c : ℕ) → next_cell nb listed ≡ Some c
+pub next_found : (nb : List Cell) (listed : List ℕ) (c : ℕ) → next_cell nb listed ≡ Some c
     → (is_ready nb listed c ≡ true) × (c < length nb)
 next_found nb listed c e =
     let f = found (is_ready nb listed) (all_cells nb) c e in
@@ -168,7 +178,7 @@ listed_next : (nb : List Cell) (k c : ℕ) → is_in c (places nb (suc k)) ≡ t
     → (is_in c (places nb k) ≡ true) ⊎ ((is_ready nb (places nb k) c ≡ true) × (c < length nb))
 listed_next nb k c h = listed_by nb (places nb k) (next_cell nb (places nb k)) c refl h
 
-places_below : (nb : List Cell) (k c : ℕ) → is_in c (places nb k) ≡ true → c < length nb
+pub places_below : (nb : List Cell) (k c : ℕ) → is_in c (places nb k) ≡ true → c < length nb
 places_below nb zero c h = absurd (both_ways false refl h)
 places_below nb (suc k) c h = ⊎_elim (places_below nb k c) (λ ready. ready.1) (listed_next nb k c h)
 
@@ -179,7 +189,7 @@ distinct_by nb listed (Some c) e d =
     let absent = not-true _ (and_parts (not (is_in c listed)) _ (next_found nb listed c e).0).0 in
     IsDistinct-push nat_eq_equiv listed c d (same_test c listed ∙ absent)
 
-places_distinct : (nb : List Cell) (k : ℕ) → IsDistinct eqb (places nb k)
+pub places_distinct : (nb : List Cell) (k : ℕ) → IsDistinct eqb (places nb k)
 unfolding IsDistinct
 places_distinct nb zero = tt
 places_distinct nb (suc k) = distinct_by nb (places nb k) (next_cell nb (places nb k)) refl (places_distinct nb k)
@@ -187,7 +197,7 @@ places_distinct nb (suc k) = distinct_by nb (places nb k) (next_cell nb (places 
 -- ---- the order lists no cell of a cycle
 
 -- a parent of one of the first k + 1 cells is one of the first k
-step_back : (nb : List Cell) (k a b : ℕ) → edge nb a b ≡ true → is_in b (places nb (suc k)) ≡ true
+pub step_back : (nb : List Cell) (k a b : ℕ) → edge nb a b ≡ true → is_in b (places nb (suc k)) ≡ true
     → is_in a (places nb k) ≡ true
 step_back nb zero a b e h = ⊎_elim
     (λ before. absurd (both_ways false refl before))
@@ -209,7 +219,7 @@ not_on_cycle nb zero c h cycle = both_ways false refl h
 not_on_cycle nb (suc k) c h cycle = not_on_cycle nb k c (chain_back nb k c cycle.0 c cycle.1 h) cycle
 
 -- where the order is full, each cell stands in it
-all_listed : (nb : List Cell) (c : ℕ) → length (order nb) ≡ length nb → c < length nb → is_in c (order nb) ≡ true
+pub all_listed : (nb : List Cell) (c : ℕ) → length (order nb) ≡ length nb → c < length nb → is_in c (order nb) ≡ true
 all_listed nb c full below = ⊎_elim
     (λ yes. yes)
     (λ no.

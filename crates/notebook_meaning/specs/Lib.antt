@@ -2,8 +2,10 @@ pub mod Answer
 pub mod Fails
 pub mod FrameText
 pub mod Graph
+pub mod LaidOver
 pub mod Meaning
 pub mod Once
+pub mod Reruns
 pub mod Runs
 pub mod Samples
 pub mod Spending

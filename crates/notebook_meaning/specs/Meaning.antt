@@ -77,20 +77,24 @@ abbrev pub element_at : Scene → ℕ → Name → Result ElementData OpFault �
 element_at scene line x (Ok e) = Gives (V.Element (at_kept (look_up x scene.present) e))
 element_at scene line x (Err fault) = Faults (kind_of fault) line
 
--- an element of the kind, and no kind of this name
-abbrev pub made_at : Scene → ℕ → Name → Option Kind → List Value → Trace Value
-made_at scene line x None vs = Faults Subset line
-made_at scene line x (Some kind) vs = element_at scene line x (made kind x (record { places = map data_of vs; words = [] }))
+-- an element of the kind
+abbrev pub made_at : Scene → ℕ → Name → Kind → List Value → Trace Value
+made_at scene line x kind vs = element_at scene line x (made kind x (record { places = map data_of vs; words = [] }))
 
 -- `NAME = mo.ui.KIND(ARGUMENTS)`: the call's own charge, the module, the arguments, what they are charged for, the element
-abbrev pub element_of : Scene → Env → ℕ → Name → (kind : Name) → Trees → Trace Value
+abbrev pub element_of : Scene → Env → ℕ → Name → Kind → Trees → Trace Value
 element_of scene env line x kind args =
     Charges 1 line (read_module line (look_up (codes "mo") env) >>= λ _. values_after [] scene env line args >>= λ vs.
-    Charges (charge_of vs) line (made_at scene line x (kind_called kind) vs))
+    Charges (charge_of vs) line (made_at scene line x kind vs))
+
+-- The same where there is such a kind. Where there is none, the call has no meaning, as other forms that aren't part of the language.
+abbrev pub element_by : Scene → Env → ℕ → Name → Option Kind → Trees → Trace Value
+element_by scene env line x None args = Charges 1 line (Faults Subset line)
+element_by scene env line x (Some kind) args = element_of scene env line x kind args
 
 abbrev pub call_of : Scene → Env → ℕ → Name → Option Name → (callee : Tree) → Trees → Trace Value
 call_of scene env line x None callee args = value_of scene env line (call callee args)
-call_of scene env line x (Some kind) callee args = element_of scene env line x kind args
+call_of scene env line x (Some kind) callee args = element_by scene env line x (kind_called kind) args
 
 abbrev pub calls_for : Scene → Env → ℕ → List Name → (callee : Tree) → Trees → Trace Value
 calls_for scene env line (x ∷ []) callee args = call_of scene env line x (ui_kind callee) callee args

@@ -1,11 +1,14 @@
 // Worked notebooks and laws, computed and proved from the definitions.
-ghost use Rattle.std.specs.Prelude.{◌≡◌, ℕ, ◌<◌, true, List, [], ◌∷◌, ◌++◌, length, codes, map, Some, None};
+ghost use Rattle.std.specs.Prelude.{◌≡◌, ◌↔◌, ℕ, ◌<◌, nat_eq, true, IsTrue, List, [], ◌∷◌, ◌++◌, length, codes, map, sum, Some, None};
+ghost use Rattle.std.specs.List.{IsDistinct};
+ghost use Rattle.py_tree.specs.Names.{Name};
 ghost use Rattle.py_tree.specs.Trees.{Tree, Stmts, Cell};
 ghost use Rattle.py_value.specs.ElementData.{ElementData};
 ghost use Rattle.py_value.specs.declared.types.Value.TheVariants as V;
 ghost use Rattle.py_value.specs.declared.error_kind.ErrorKind.TheVariants.{RuntimeError};
 ghost use Rattle.notebook_meaning.specs.Graph.{order, is_in, LiesOnCycle, NoneCyclic};
 ghost use Rattle.notebook_meaning.specs.Meaning.{Scene, Env, value_of, block_of};
+ghost use Rattle.notebook_meaning.specs.Reruns.{is_within, rerun, IsReached};
 ghost use Rattle.notebook_meaning.specs.Runs.{HasOneRun};
 ghost use Rattle.notebook_meaning.specs.Whole.{whole};
 ghost use Rattle.notebook_meaning.specs.Fails.{FailsAt};
@@ -22,6 +25,13 @@ pub fn order_and_cycles()
     ensures free { (nb : List Cell) → ((c : ℕ) → c < length nb → is_in c (order nb) ≡ true) → NoneCyclic nb }
     ensures lists { (nb : List Cell) → NoneCyclic nb → (c : ℕ) → c < length nb → is_in c (order nb) ≡ true }
     ensures none { (nb : List Cell) (c : ℕ) → is_in c (order nb) ≡ true → LiesOnCycle nb c → ⊥ }
+{}
+
+/// A cell runs again where a chain leads to it from a cell that references one of the names, and no cell does so twice.
+pub fn what_runs_again()
+    ensures reached { (nb : List Cell) (names : List Name) (c : ℕ) → (IsTrue (is_within nb names (length nb) c) ↔ IsReached nb names c) }
+    ensures once { (nb : List Cell) (names : List Name) → IsDistinct nat_eq (rerun nb names) }
+    ensures diamond { rerun diamond (codes "base" ∷ []) ≡ 1 ∷ 2 ∷ 0 ∷ [] }
 {}
 
 /// An expression and a block have one run each, its beginnings that are cut, and each budget picks one of them.
@@ -63,6 +73,7 @@ pub fn worked_slider()
     ensures accepted { IsAccepted with_slider_file with_slider }
     ensures text { once_text with_slider ≡ with_slider_text }
     ensures costs { (whole with_slider usual_budget []).costs ≡ 1 ∷ 4 ∷ 5 ∷ [] }
+    ensures work { sum (whole with_slider usual_budget []).costs ≡ 10 }
     ensures present { map (λ (f : CellFrame). f.output) (whole with_slider usual_budget s_at_four).frames
         ≡ None ∷ None ∷ Some (record { text = codes "5"; kind = output.Plain }) ∷ [] }
     ensures own { (e : ElementData) → e.name ≡ codes "s"

@@ -8,7 +8,6 @@ ghost use Rattle.py_eval.specs.Shows.{scene_of};
 ghost use Rattle.py_tree.specs.Levels.{are_levelled_trees};
 ghost use Rattle.py_tree.specs.Names.{is_among};
 ghost use Rattle.py_tree.specs.View.{view, views};
-ghost use Rattle.py_value.specs.Elements.{kind_called};
 ghost use Rattle.py_value.specs.Maps.{look_up};
 
 use crate::eval::eval_all;
@@ -69,16 +68,13 @@ fn read_module(env: &Env, line: u32) -> Result<(), Stop>
 fn make_element(
     alloc: Global,
     name: &str,
-    kind: Option<Kind>,
+    kind: Kind,
     places: Vec<Value>,
     scene: &Scene,
     line: u32,
 ) -> Result<Value, Stop>
     ensures { (left : ℕ) → Meets (λ v. v) result left (spend (made_at (scene_of scene.now) line name.now kind places.items) left []) }
 {
-    let Some(kind) = kind else {
-        return Err(unknown_form(line));
-    };
     let label = Text::of(String::from_str(alloc, name)?);
     let args = Args {
         places: Values::of(places),
@@ -99,7 +95,7 @@ fn make_element(
 fn element(
     alloc: Global,
     name: &str,
-    kind: &str,
+    kind: Kind,
     arguments: &[Expr],
     scene: &Scene,
     env: &Env,
@@ -108,14 +104,14 @@ fn element(
 ) -> Result<Value, Stop>
     requires { IsTrue (are_levelled_trees (views arguments.now)) }
     ensures meets { Meets (λ v. v) result left.new
-        (spend (element_of (scene_of scene.now) env.now line name.now kind.now (views arguments.now)) left.old []) }
+        (spend (element_of (scene_of scene.now) env.now line name.now kind (views arguments.now)) left.old []) }
     ensures used { left.new ≤ left.old }
 {
     charge(left, 1, line)?;
     read_module(env, line)?;
     let places = eval_all(alloc, arguments, scene, env, line, left)?;
     charge(left, operand_charge(places.as_slice()), line)?;
-    make_element(alloc, name, Kind::called(kind), places, scene, line)
+    make_element(alloc, name, kind, places, scene, line)
 }
 
 /// The value of a call that is the right side of an assignment to these targets. No calls but those of `mo.ui` are part of the language
@@ -136,8 +132,10 @@ pub fn called(
     ensures used { left.new ≤ left.old }
 {
     if let [name] = targets {
-        if let Some(kind) = ui_kind(callee) {
-            return element(alloc, name.items(), kind, arguments, scene, env, line, left);
+        if let Some(word) = ui_kind(callee) {
+            if let Some(kind) = Kind::called(word) {
+                return element(alloc, name.items(), kind, arguments, scene, env, line, left);
+            }
         }
     }
     charge(left, 1, line)?;

@@ -10,8 +10,9 @@ mod scene;
 mod steps;
 
 pub use run::{End, Ran, run_block};
-pub use scene::{Env, Present, Scene};
+pub use scene::{Env, Scene};
 pub use steps::Steps;
+pub use ui_elements::Present;
 
 #[cfg(test)]
 mod tests;

@@ -25,6 +25,8 @@ enum Code {
     Slider,
     // `s = mo.ui.slider(10, 0)`
     Backwards,
+    // `s = mo.ui.sliders(0, 10)`
+    NoKind,
     // `s = mo(0, 10)`
     OtherCall,
     // `mo.ui.slider(0, 10)`
@@ -89,12 +91,12 @@ fn part_of(alloc: Global, base: Expr, part: &str) -> Result<Expr, Memory>
     Ok(Expr::Attribute(base, spelled(alloc, part)?))
 }
 
-// `mo.ui.slider`
-fn maker(alloc: Global) -> Result<Expr, Memory>
-    ensures { IfOk result (λ e. view e ≡ attribute (attribute (name (codes "mo")) (codes "ui")) (codes "slider")) }
+// `mo.ui` and a word
+fn maker(alloc: Global, word: &str) -> Result<Expr, Memory>
+    ensures { IfOk result (λ e. view e ≡ attribute (attribute (name (codes "mo")) (codes "ui")) word.now) }
 {
     let ui = part_of(alloc, named(alloc, "mo")?, "ui")?;
-    part_of(alloc, ui, "slider")
+    part_of(alloc, ui, word)
 }
 
 // A call with two numbers.
@@ -133,10 +135,23 @@ fn line_of(alloc: Global, code: Code) -> Result<Line, Memory>
     match code {
         Code::Sum => Ok(Line::Value(added(alloc, named(alloc, "a")?, number(alloc, "3")?)?)),
         Code::Import => Ok(Line::ImportMo),
-        Code::Slider => assigned(alloc, "s", called(alloc, maker(alloc)?, "0", "10")?),
-        Code::Backwards => assigned(alloc, "s", called(alloc, maker(alloc)?, "10", "0")?),
+        Code::Slider => assigned(
+            alloc,
+            "s",
+            called(alloc, maker(alloc, "slider")?, "0", "10")?,
+        ),
+        Code::Backwards => assigned(
+            alloc,
+            "s",
+            called(alloc, maker(alloc, "slider")?, "10", "0")?,
+        ),
+        Code::NoKind => assigned(
+            alloc,
+            "s",
+            called(alloc, maker(alloc, "sliders")?, "0", "10")?,
+        ),
         Code::OtherCall => assigned(alloc, "s", called(alloc, named(alloc, "mo")?, "0", "10")?),
-        Code::BareCall => Ok(Line::Value(called(alloc, maker(alloc)?, "0", "10")?)),
+        Code::BareCall => Ok(Line::Value(called(alloc, maker(alloc, "slider")?, "0", "10")?)),
         Code::Value => {
             let read = part_of(alloc, named(alloc, "s")?, "value")?;
             Ok(Line::Value(added(alloc, read, number(alloc, "1")?)?))
@@ -262,7 +277,7 @@ fn ends_with_an_error(rt: HostRuntime) -> Result<(), Fail> {
         own: &["s"],
         kept: &[("s", 4)],
     };
-    let cases: [(Case, ErrorKind, u64); 8] = [
+    let cases: [(Case, ErrorKind, u64); 9] = [
         (own, ErrorKind::RuntimeError, 4),
         (after(&[], Code::OfNumber), ErrorKind::AttributeError, 3),
         (
@@ -279,6 +294,8 @@ fn ends_with_an_error(rt: HostRuntime) -> Result<(), Fail> {
         (after(&[Code::Import], Code::Module), ErrorKind::Subset, 2),
         // `mo` is read before the two numbers, which would cost 2 more
         (after(&[], Code::Slider), ErrorKind::NameError, 2),
+        // where there is no such kind, `mo` isn't read
+        (after(&[], Code::NoKind), ErrorKind::Subset, 2),
         (
             after(&[Code::Import], Code::Backwards),
             ErrorKind::ValueError,

@@ -5,4 +5,5 @@ pub mod KeyFaults
 pub mod Levels
 pub mod Places
 pub mod SizeLevels
+pub mod SortedMaps
 pub mod TextLevels

@@ -8,6 +8,7 @@ pub mod laws;
 mod making;
 mod parameters;
 mod params;
+mod present;
 mod ranges;
 mod showing;
 #[cfg(test)]
@@ -17,4 +18,5 @@ mod words;
 pub use admitting::{AdmitFault, admit};
 pub use args::{Args, Word, Words};
 pub use making::make;
+pub use present::Present;
 pub use showing::shown;

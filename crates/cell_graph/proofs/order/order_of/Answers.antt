@@ -28,42 +28,42 @@ loop-init c =
       placed = λ nb kept. c.new-listed.ensures.items;
     }
 
-pub index-requires : goal.index-requires
-index-requires c =
+pub bounds-below-cell : goal.bounds-below-cell
+bounds-below-cell c =
     let f = first c.args.above.now c.loop.listed.items c.loop.waits.items c.loop.ready.keys c.loop.invariant.swept c.in-Some.cell
     c.pop_first.new.self.keys c.in-Some.ensures.removal in
-    omega (arith, f.high, c.in_ok-below.ensures.count)
+    omega (arith, f.high, c.requires.turned.count)
 
 pub release-requires-clause-within : goal.release-requires-clause-within
 release-requires-clause-within c =
-    let below : List (List ℕ) = c.in_ok-below.below.items in
+    let below : List (List ℕ) = c.args.below.now in
     let f = first c.args.above.now c.loop.listed.items c.loop.waits.items c.loop.ready.keys c.loop.invariant.swept c.in-Some.cell
     c.pop_first.new.self.keys c.in-Some.ensures.removal in
-    let there : c.in-Some.cell < length below = omega (arith, f.high, c.in_ok-below.ensures.count) in
+    let there : c.in-Some.cell < length below = omega (arith, f.high, c.requires.turned.count) in
     let children : c.items.result.now ≡ list_in below c.in-Some.cell =
-    c.items.ensures ∙ c.index.ensures ∙ get_or_default below c.in-Some.cell c.index.result.now [] there in
+    c.items.ensures ∙ c.index-below-cell.is ∙ get_or_default below c.in-Some.cell c.index-below-cell.result [] there in
     let inside = child_inside c.args.above.now c.loop.listed.items c.loop.waits.items c.loop.ready.keys c.loop.invariant.swept c.in-Some.cell
-    c.pop_first.new.self.keys c.in-Some.ensures.removal below c.in_ok-below.ensures in
+    c.pop_first.new.self.keys c.in-Some.ensures.removal below c.requires.turned in
     subst (λ (ws : List ℕ). All (λ d. d < length ws) c.items.result.now) (sym c.as_mut_slice.ensures.value)
     (subst (All (λ d. d < length c.loop.waits.items)) (sym children) inside)
 
 pub release-requires-clause-held : goal.release-requires-clause-held
 release-requires-clause-held c = λ d.
-    let below : List (List ℕ) = c.in_ok-below.below.items in
+    let below : List (List ℕ) = c.args.below.now in
     let f = first c.args.above.now c.loop.listed.items c.loop.waits.items c.loop.ready.keys c.loop.invariant.swept c.in-Some.cell
     c.pop_first.new.self.keys c.in-Some.ensures.removal in
-    let there : c.in-Some.cell < length below = omega (arith, f.high, c.in_ok-below.ensures.count) in
+    let there : c.in-Some.cell < length below = omega (arith, f.high, c.requires.turned.count) in
     let children : c.items.result.now ≡ list_in below c.in-Some.cell =
-    c.items.ensures ∙ c.index.ensures ∙ get_or_default below c.in-Some.cell c.index.result.now [] there in
+    c.items.ensures ∙ c.index-below-cell.is ∙ get_or_default below c.in-Some.cell c.index-below-cell.result [] there in
     let held = child_held c.args.above.now c.loop.listed.items c.loop.waits.items c.loop.ready.keys c.loop.invariant.swept c.in-Some.cell
-    c.pop_first.new.self.keys c.in-Some.ensures.removal below c.in_ok-below.ensures d in
+    c.pop_first.new.self.keys c.in-Some.ensures.removal below c.requires.turned d in
     let P : List ℕ → List ℕ → Type 0 = λ cs ws. count_of d cs ≤ get_or ws d 0 in
     subst (P c.items.result.now) (sym c.as_mut_slice.ensures.value) (subst (λ (cs : List ℕ). P cs c.loop.waits.items) (sym children) held)
 
 pub loop-preserved : goal.loop-preserved
 loop-preserved c =
     let above : List (List ℕ) = c.args.above.now in
-    let below : List (List ℕ) = c.in_ok-below.below.items in
+    let below : List (List ℕ) = c.args.below.now in
     let listed : List ℕ = c.loop.listed.items in
     let waits : List ℕ = c.loop.waits.items in
     let ready : List ℕ = c.loop.ready.keys in
@@ -74,8 +74,8 @@ loop-preserved c =
           let cell = w.in-Some.cell in
           let pop : ready ≡ cell ∷ rest = w.in-Some.ensures.removal in
           let f = first above listed waits ready swept cell rest pop in
-          let there : cell < length below = omega (arith, f.high, c.in_ok-below.ensures.count) in
-          let children : w.items.result.now ≡ list_in below cell = w.items.ensures ∙ w.index.ensures ∙ get_or_default below cell w.index.result.now [] there in
+          let there : cell < length below = omega (arith, f.high, c.requires.turned.count) in
+          let children : w.items.result.now ≡ list_in below cell = w.items.ensures ∙ w.index-below-cell.is ∙ get_or_default below cell w.index-below-cell.result [] there in
           let same : w.as_mut_slice.result.now ≡ waits = w.as_mut_slice.ensures.value in
           let fewer : List ℕ = w.release.new.waits in
           let less : (d : ℕ) → get_or fewer d 0 + count_of d (list_in below cell) ≡ get_or waits d 0 =
@@ -91,7 +91,7 @@ loop-preserved c =
           let back : take c.loop.waits.len (fewer ++ drop (length fewer) waits) ≡ fewer = grind (arith, common_steps, w.release.auto.waits, w.as_mut_slice.ensures.len) in
           record {
             swept = same_sweep above (listed ++ cell ∷ []) fewer w.release.new.ready.keys _ _ _ more (ap (λ (v : Vec ℕ Global). v.items) w.waits-is ∙ back) (ap (λ (s : BTreeSet ℕ). s.keys) w.ready-is)
-                (swept_more above listed waits ready swept cell rest pop below c.in_ok-below.ensures fewer less w.release.new.ready.keys size freed);
+                (swept_more above listed waits ready swept cell rest pop below c.requires.turned fewer less w.release.new.ready.keys size freed);
             placed = λ nb kept. more ∙ place_more above listed waits ready swept cell rest pop nb c.loop.counter kept (c.loop.invariant.placed nb kept);
           }
       | in_default w ↦

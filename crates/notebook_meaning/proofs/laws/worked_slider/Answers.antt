@@ -1,5 +1,6 @@
 -- The worked notebook with a slider is computed.
-use Rattle.std.proofs.Common.{zero, suc, refl, lit≤}
+use Rattle.std.proofs.Common.{zero, suc, ap, refl, lit≤}
+use Rattle.std.specs.Prelude.{sum}
 use Rattle.std.specs.Fmt.{digits}
 use Rattle.notebook_meaning.specs.Graph.{NoneDoubled}
 use Rattle.notebook_meaning.specs.Samples.{with_slider}
@@ -25,6 +26,9 @@ returns-clause-text c = simp (same_text, a_number, a_text)
 pub returns-clause-costs : goal.returns-clause-costs
 unfolding pay show
 returns-clause-costs c = simp (same_text, a_number, a_text)
+
+pub returns-clause-work : goal.returns-clause-work
+returns-clause-work c = ap sum (returns-clause-costs c)
 
 pub returns-clause-present : goal.returns-clause-present
 unfolding digits pay show

@@ -2,7 +2,6 @@
 use Rattle.std.proofs.Common.{◌≡◌, ◌∙◌, ap}
 use Rattle.notebook_meaning.specs.Meaning.{made_at}
 use Rattle.py_eval.specs.Shows.{scene_of}
-use Rattle.py_value.specs.Elements.{kind_called}
 use Rattle.py_value.specs.Size.{charge_of}
 use Rattle.py_eval.proofs.Sequence.{exit, onward, paid, unpaid}
 use Rattle.py_eval.proofs.elements.element.Goals as goal
@@ -26,5 +25,5 @@ returns-in_err-charge-2-clause-meets c =
 pub returns-clause-meets : goal.returns-clause-meets
 returns-clause-meets c =
     let amount : c.operand_charge.result ≡ charge_of c.in_ok-places.places.items = c.operand_charge.ensures ∙ ap charge_of c.as_slice.ensures.value in
-    rw (paid _ 1 c.args.line _ _ c.in_ok-charge.ensures.meets, onward _ _ _ _ _ (c.in_ok-read_module.ensures _), onward _ _ _ _ _ c.in_ok-places.ensures.meets, ← amount, paid (made_at (scene_of c.args.scene.now) c.args.line c.args.name.now (kind_called c.args.kind.now) c.in_ok-places.places.items) _ _ _ _ c.in_ok-charge-2.ensures.meets, ← c.called.ensures)
+    rw (paid _ 1 c.args.line _ _ c.in_ok-charge.ensures.meets, onward _ _ _ _ _ (c.in_ok-read_module.ensures _), onward _ _ _ _ _ c.in_ok-places.ensures.meets, ← amount, paid (made_at (scene_of c.args.scene.now) c.args.line c.args.name.now c.args.kind c.in_ok-places.places.items) _ _ _ _ c.in_ok-charge-2.ensures.meets)
     (c.make_element.ensures _)
