@@ -7,7 +7,8 @@ use Rattle.std.proofs.lemmas.Slice.Eq.{bytes_eq-Decides}
 use Rattle.line_parser.specs.Sliders.{Bounds, maker, slider, are_bounds}
 use Rattle.line_parser.specs.Sums.{numeral, value_of}
 use Rattle.notebook_meaning.specs.Thin as thin
-use Rattle.notebook_meaning.specs.Thin.{Elements, is_name, is_slider_name, is_term, is_called, is_mo_ui, is_maker, is_number_tree, makes_slider}
+use Rattle.py_tree.specs.Elements.{is_mo, is_mo_ui}
+use Rattle.notebook_meaning.specs.Thin.{Elements, is_name, is_slider_name, is_term, is_maker, is_number_tree, makes_slider}
 use Rattle.py_tree.specs.Levels.{is_literal}
 use Rattle.py_tree.specs.Names.{Name}
 use Rattle.py_tree.specs.Numbers.{is_number, number_of}
@@ -79,12 +80,12 @@ bounds_form (more a (more b none)) h =
     }
 bounds_form (more a (more b (more c rest))) h = absurd (cc)
 
-called_form : (x : Name) (t : Tree) → is_called x t ≡ true → t ≡ name x
-called_form x (literal token) h = absurd (cc)
-called_form x (name y) h = ap name (same_bytes y x h)
-called_form x (sum a b) h = absurd (cc)
-called_form x (attribute base y) h = absurd (cc)
-called_form x (call f args) h = absurd (cc)
+mo_form : (t : Tree) → is_mo t ≡ true → t ≡ name (codes "mo")
+mo_form (literal token) h = absurd (cc)
+mo_form (name y) h = ap name (same_bytes y (codes "mo") h)
+mo_form (sum a b) h = absurd (cc)
+mo_form (attribute base y) h = absurd (cc)
+mo_form (call f args) h = absurd (cc)
 
 mo_ui_form : (t : Tree) → is_mo_ui t ≡ true → t ≡ attribute (name (codes "mo")) (codes "ui")
 mo_ui_form (literal token) h = absurd (cc)
@@ -92,7 +93,7 @@ mo_ui_form (name y) h = absurd (cc)
 mo_ui_form (sum a b) h = absurd (cc)
 mo_ui_form (attribute base y) h =
     let s = and_parts _ _ h in
-    ap (λ t. attribute t y) (called_form (codes "mo") base s.0) ∙ ap (attribute (name (codes "mo"))) (same_bytes y (codes "ui") s.1)
+    ap (λ t. attribute t y) (mo_form base s.0) ∙ ap (attribute (name (codes "mo"))) (same_bytes y (codes "ui") s.1)
 mo_ui_form (call f args) h = absurd (cc)
 
 maker_form : (t : Tree) → is_maker t ≡ true → t ≡ maker

@@ -15,4 +15,6 @@ mod trees;
 mod whole_line;
 mod words;
 
+pub use names::is_name;
+pub use numbers::number;
 pub use thin_file::{ThinFault, thin};

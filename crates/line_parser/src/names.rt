@@ -93,7 +93,7 @@ fn is_reserved(word: &str) -> bool
     RESERVED.contains(&word)
 }
 
-// Whether the word is spelled as a name, and is none of the reserved words.
+/// Whether the word is spelled as a name, and is none of the reserved words.
 pub fn is_name(word: &str) -> bool
     ensures { result ≡ thin.is_name word.now }
 {

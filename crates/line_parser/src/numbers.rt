@@ -21,7 +21,7 @@ fn decimal(word: &str) -> Option<i128>
     word.parse::<i128>().ok()
 }
 
-// The number of the word: of a digit, or of digits that don't begin with 0, where an `i128` holds it.
+/// The number of the word: of a digit, or of digits that don't begin with 0, where an `i128` holds it.
 pub fn number(word: &str) -> Option<i128>
     ensures { result ≡ cond (is_number word.now) (Some (pos (number_of word.now))) None }
 {

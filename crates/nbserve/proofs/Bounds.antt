@@ -1,7 +1,7 @@
 -- Cells that are listed are cells of the notebook.
 use Rattle.std.proofs.Common.{◌≡◌, refl, subst, ℕ, zero, suc, ◌+◌, ◌≤◌, ◌<◌, Bool, true, false, cond, List, [], ◌∷◌, length, length-append, arith}
 use Rattle.std.specs.Prelude.{All, Option, Some, None, find}
-use Rattle.std.proofs.lemmas.List.Elements.{All-nil, All-cons, All-append, All-filter}
+use Rattle.std.proofs.lemmas.List.Elements.{All-nil, All-cons, All-head, All-tail, All-append, All-filter}
 use Rattle.py_tree.specs.Trees.{Cell}
 use Rattle.notebook_meaning.specs.Graph.{numbers_from, all_cells, parents, edge, next_cell, is_ready, with_next, places, order}
 
@@ -15,12 +15,6 @@ cells_below nb = numbers_below (length nb) 0 nb (omega arith)
 pub parents_below : (nb : List Cell) (c : ℕ) → All (λ p. p < length nb) (parents nb c)
 parents_below nb c = All-filter (λ a. edge nb a c) (λ p. p < length nb) (all_cells nb) (cells_below nb)
 
-pub head_holds : (P : ℕ → Type 0) (x : ℕ) (xs : List ℕ) → All P (x ∷ xs) → P x
-head_holds P x xs h = h 0 0 (omega arith)
-
-pub tail_holds : (P : ℕ → Type 0) (x : ℕ) (xs : List ℕ) → All P (x ∷ xs) → All P xs
-tail_holds P x xs h k d l = h (suc k) d (omega (arith, l))
-
 found_more : (n : ℕ) (p : ℕ → Bool) (x c : ℕ) (xs : List ℕ) (b : Bool) → x < n → (find p xs ≡ Some c → c < n) → cond b (Some x) (find p xs) ≡ Some c → c < n
 found_more n p x c xs true h rest e = let same : x ≡ c = cc in subst (λ m. m < n) same h
 found_more n p x c xs false h rest e = rest e
@@ -28,7 +22,7 @@ found_more n p x c xs false h rest e = rest e
 found_below : (n : ℕ) (p : ℕ → Bool) (xs : List ℕ) (c : ℕ) → All (λ c. c < n) xs → find p xs ≡ Some c → c < n
 found_below n p [] c h e = let no : None ≡ Some c = e in absurd cc
 found_below n p (x ∷ xs) c h e =
-    found_more n p x c xs (p x) (head_holds (λ c. c < n) x xs h) (found_below n p xs c (tail_holds (λ c. c < n) x xs h)) e
+    found_more n p x c xs (p x) (All-head (λ c. c < n) x xs h) (found_below n p xs c (All-tail (λ c. c < n) x xs h)) e
 
 listed_below : (nb : List Cell) (listed : List ℕ) (o : Option ℕ) → next_cell nb listed ≡ o → All (λ c. c < length nb) listed → All (λ c. c < length nb) (with_next o listed)
 listed_below nb listed None e h = h

@@ -12,14 +12,15 @@ use Rattle.py_tree.specs.Names.{Name, is_among, is_local}
 use Rattle.py_tree.specs.Scope.{defs, bound}
 use Rattle.py_tree.specs.Trees.{Cell}
 use Rattle.py_value.specs.Maps.{where_name}
-use Rattle.nbserve.specs.Opened.{IsPlain, run_of, frame_after, status_after, error_after, settled}
-use Rattle.nbserve.specs.declared.progress.Progress.{Progress}
+use Rattle.nbserve.specs.KernelState.{IsPlain, run_of}
+use Rattle.nbserve.specs.Ran.{frame_after, status_after, error_after, settled}
+use Rattle.nbserve.specs.declared.kernel_state.KernelState.{KernelState}
 use Rattle.nbserve.proofs.NamesOf.{among_defs, among_plain}
 use Rattle.nbserve.proofs.Without.{where_name_all, where_name_again, where_name_same, where_name_swap}
 
 -- the run is that of the cell where the elements that the scene names are its own
-pub run_here : (r : Ran) (after : Env) (p : Progress) (code : Cell) (own : List Name) → own ≡ elements code → Shows r after p.budget (runs (record { own = own; present = p.present }) p.env code.body p.budget) → Shows r after p.budget (run_of p code)
-run_here r after p code own is shows = subst (λ own. Shows r after p.budget (runs (record { own = own; present = p.present }) p.env code.body p.budget)) is shows
+pub run_here : (r : Ran) (after : Env) (s : KernelState) (code : Cell) (own : List Name) → own ≡ elements code → Shows r after s.budget (runs (record { own = own; present = s.present }) s.env code.body s.budget) → Shows r after s.budget (run_of s code)
+run_here r after s code own is shows = subst (λ own. Shows r after s.budget (runs (record { own = own; present = s.present }) s.env code.body s.budget)) is shows
 
 -- the frame that the answer gives is that of the run
 pub frame_shown : (c : ℕ) (r : Ran) (env : Env) (budget : ℕ) (run : Spending Flow) → Shows r env budget run → frame_after c r ≡ whole.ran_frame c run

@@ -7,11 +7,12 @@ use Rattle.std.proofs.lemmas.Bool.Decides.{nat_tests}
 use Rattle.std.proofs.lemmas.List.Sums.{sum_by-cons}
 use Rattle.std.proofs.lemmas.Slice.Eq.{bytes_eq-Decides}
 use Rattle.std.specs.Str.{bytes_eq}
+use Rattle.py_tree.specs.Elements.{is_mo, is_mo_ui}
 use Rattle.py_tree.specs.Names.{Name, is_among, is_local, is_lower, is_upper, is_digit, begins_name, continues_name, is_spelled_name, is_identifier, keywords, unused_keywords, builtins}
 use Rattle.py_tree.specs.Levels.{level, is_levelled, are_levelled_trees, is_levelled_head, are_targets, are_levelled}
 use Rattle.py_tree.specs.Scope.{bound, head_binds}
 use Rattle.py_tree.specs.Trees.{Tree, literal, name, sum, attribute, call, Trees, none, more, Head, value, assign, import_mo, stmt, Stmts, end, then_comes, Cell}
-use Rattle.notebook_meaning.specs.Thin.{Elements, elements_of, reserved, is_plain_name, is_name, is_number_tree, number_in, is_called, is_slider_name, is_mo_ui, is_maker, are_bounds, makes_slider, is_term, is_chain, terms, is_sum, is_target, is_line, is_empty, are_lines, line_count, is_plain, is_cell, are_cells, are_thin}
+use Rattle.notebook_meaning.specs.Thin.{Elements, elements_of, reserved, is_plain_name, is_name, is_number_tree, number_in, is_slider_name, is_maker, are_bounds, makes_slider, is_term, is_chain, terms, is_sum, is_target, is_line, is_empty, are_lines, line_count, is_plain, is_cell, are_cells, are_thin}
 use Rattle.nbserve.proofs.Booleans.{both, and_true, not_or, three_of_four}
 
 lower_begins : (c : ℕ) → is_lower c ≡ true → begins_name c ≡ true
@@ -60,20 +61,20 @@ attribute_good : (base : Tree) (x w : Name) → IsBase base → bytes_eq x w ≡
 attribute_good base x w b h k =
     (refl, and_true (is_levelled base && nat_lt 9 (level base)) (is_identifier x) (and_true (is_levelled base) (nat_lt 9 (level base)) b.1 b.0) (spelled x w h k))
 
-called_good : (w : Name) (t : Tree) → is_called w t ≡ true → is_identifier w ≡ true → IsBase t
-called_good w (literal token) h k = let no : false ≡ true = h in absurd cc
-called_good w (name x) h k = (refl, spelled x w h k)
-called_good w (sum a b) h k = let no : false ≡ true = h in absurd cc
-called_good w (attribute base x) h k = let no : false ≡ true = h in absurd cc
-called_good w (call callee args) h k = let no : false ≡ true = h in absurd cc
+mo_good : (t : Tree) → is_mo t ≡ true → IsBase t
+mo_good (literal token) h = let no : false ≡ true = h in absurd cc
+mo_good (name x) h = (refl, spelled x (codes "mo") h refl)
+mo_good (sum a b) h = let no : false ≡ true = h in absurd cc
+mo_good (attribute base x) h = let no : false ≡ true = h in absurd cc
+mo_good (call callee args) h = let no : false ≡ true = h in absurd cc
 
 mo_ui_good : (t : Tree) → is_mo_ui t ≡ true → IsBase t
 mo_ui_good (literal token) h = let no : false ≡ true = h in absurd cc
 mo_ui_good (name x) h = let no : false ≡ true = h in absurd cc
 mo_ui_good (sum a b) h = let no : false ≡ true = h in absurd cc
 mo_ui_good (attribute base x) h =
-    let p = both (is_called (codes "mo") base) (bytes_eq x (codes "ui")) h in
-    attribute_good base x (codes "ui") (called_good (codes "mo") base p.0 refl) p.1 refl
+    let p = both (is_mo base) (bytes_eq x (codes "ui")) h in
+    attribute_good base x (codes "ui") (mo_good base p.0) p.1 refl
 mo_ui_good (call callee args) h = let no : false ≡ true = h in absurd cc
 
 maker_good : (t : Tree) → is_maker t ≡ true → IsBase t

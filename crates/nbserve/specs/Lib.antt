@@ -1,4 +1,11 @@
-pub mod Opened
+pub mod Coming
+pub mod KernelState
+pub mod Ran
+pub mod Read
 pub mod Refused
+pub mod Replays
+pub mod Stepping
 pub mod Unopened
+pub mod Visit
+pub mod Visits
 pub mod Wrote

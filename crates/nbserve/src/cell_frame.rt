@@ -1,6 +1,6 @@
 // The results of cells.
 ghost use Rattle.std.specs.Prelude.{◌≡◌, IfOk, option_and_then};
-ghost use Rattle.nbserve.specs.Opened.{error_after, frame_after};
+ghost use Rattle.nbserve.specs.Ran.{error_after, frame_after};
 ghost use Rattle.notebook_meaning.specs.Whole as whole;
 ghost use Rattle.py_value.specs.Texts.{str_of, element_text};
 ghost use Rattle.py_value.specs.View.{data_of};
@@ -96,4 +96,31 @@ pub fn cancelled_frame(alloc: Global, cell: u32) -> CellFrame
         console: Lines::of(Vec::new(alloc)),
         error: None,
     }
+}
+
+fn copy_output(alloc: Global, output: &Option<Output>) -> Result<Option<Output>, Memory>
+    ensures { IfOk result (λ copied. copied ≡ output.now) }
+{
+    match output {
+        Some(output) => {
+            Ok(Some(Output {
+                text: output.text.copy(alloc)?,
+                kind: output.kind,
+            }))
+        }
+        None => Ok(None),
+    }
+}
+
+/// The same result once more.
+pub fn copy_frame(alloc: Global, frame: &CellFrame) -> Result<CellFrame, Memory>
+    ensures { IfOk result (λ copied. copied ≡ frame.now) }
+{
+    Ok(CellFrame {
+        cell: frame.cell,
+        status: frame.status,
+        output: copy_output(alloc, &frame.output)?,
+        console: frame.console.copy(alloc)?,
+        error: frame.error,
+    })
 }

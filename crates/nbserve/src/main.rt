@@ -3,10 +3,21 @@
 
 ghost use Rattle.std.specs.Prelude.{◌≡◌, ◌<◌};
 
+mod answers;
 mod cell_frame;
+mod cell_run;
+mod coming;
+mod kernel;
+mod kernel_state;
+#[cfg(test)]
+mod kernel_tests;
+pub mod laws;
+mod message;
 mod opening;
-mod progress;
 mod refusal;
+mod replay;
+mod stepping;
+mod taking;
 #[cfg(test)]
 mod tests;
 mod texts;

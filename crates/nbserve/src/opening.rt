@@ -6,9 +6,10 @@ ghost use Rattle.notebook_meaning.specs.Thin.{IsForm};
 ghost use Rattle.notebook_meaning.specs.Whole.{whole};
 ghost use Rattle.py_tree.specs.Trees.{Cell};
 
-use crate::progress::open_notebook;
+use crate::message::OPEN_MESSAGE;
 use crate::refusal::Refusal;
-use crate::texts::answer_text;
+use crate::replay::replay;
+use crate::texts::frames_text;
 use cell_graph::{GraphFault, notebook};
 use line_parser::{ThinFault, thin};
 use py_eval::Steps;
@@ -91,6 +92,6 @@ pub fn opening_text<L: Ledger>(
 {
     let cells = thin(alloc, bytes)?;
     let notebook = notebook(alloc, cells)?;
-    let frames = open_notebook(alloc, &notebook, USUAL_BUDGET, steps)?;
-    Ok(answer_text(alloc, frames)?)
+    let frames = replay(alloc, &notebook, USUAL_BUDGET, &[OPEN_MESSAGE], steps)?;
+    Ok(frames_text(alloc, frames.as_slice())?)
 }

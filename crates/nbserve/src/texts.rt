@@ -1,10 +1,9 @@
-// The text of an answer.
-ghost use Rattle.std.specs.Prelude.{◌≡◌, ◌∷◌, [], ◌++◌, ◌<◌, ◌^◌, IfOk, OnOk, length, map};
+// The text of frames.
+ghost use Rattle.std.specs.Prelude.{◌≡◌, ◌∷◌, [], ◌++◌, IfOk, OnOk};
 ghost use Rattle.notebook_meaning.specs.FrameText.{frame_text, frame_lines};
-ghost use Rattle.notebook_meaning.specs.declared.frames.Frame.TheVariants as frame;
 
 use nb_json::push_frame;
-use notebook_meaning::{CellFrame, Frame};
+use notebook_meaning::Frame;
 use py_value::Memory;
 use std::alloc::Global;
 
@@ -17,16 +16,13 @@ fn push_line(alloc: Global, out: &mut Vec<u8>, frame: &Frame) -> Result<(), Memo
     Ok(())
 }
 
-/// The frames of an answer, one a line: those of cells, and their number.
-pub fn answer_text(alloc: Global, frames: Vec<CellFrame>) -> Result<Vec<u8>, Memory>
-    requires { length frames.items < 2 ^ 32 }
-    ensures { IfOk result (λ text. text.items ≡ frame_lines (map frame.Cell frames.items ++ frame.Done (length frames.items) ∷ [])) }
+/// The text of frames, one a line.
+pub fn frames_text(alloc: Global, frames: &[Frame]) -> Result<Vec<u8>, Memory>
+    ensures { IfOk result (λ text. text.items ≡ frame_lines frames.now) }
 {
-    let count = frames.len() as u32;
     let mut out = Vec::new(alloc);
     for frame in frames {
-        push_line(alloc, &mut out, &Frame::Cell(frame))?;
+        push_line(alloc, &mut out, frame)?;
     }
-    push_line(alloc, &mut out, &Frame::Done(count))?;
     Ok(out)
 }

@@ -16,7 +16,7 @@ use Rattle.notebook_meaning.specs.declared.frames.CellFrame.{CellFrame}
 use Rattle.notebook_meaning.specs.Graph.{names_at, defs_of, refs_of, edge, all_cells, is_in, parents, order, NoneDoubled, NoneCyclic}
 use Rattle.notebook_meaning.specs.Meaning.{Env}
 use Rattle.notebook_meaning.specs.Whole.{Outcome, Progress, outcome_of, ended_ok, is_ok, with_outcome, with_code, with_cell, with_cells, whole}
-use Rattle.notebook_meaning.proofs.InOrder.{ComesInOrder, all_agree, comes_once, defined_in, defines_edge, defs_settled, is_last, order_comes, ready_unlisted, refs_settled, some_at}
+use Rattle.notebook_meaning.proofs.InOrder.{ComesInOrder, EachOnce, all_agree, comes_once, defined_in, defines_edge, defs_settled, is_last, order_comes, ready_unlisted, refs_settled, some_at}
 use Rattle.notebook_meaning.proofs.Orders.{free_is_listed, in_more_cases, parent_listed}
 use Rattle.notebook_meaning.proofs.Outcomes.{HasNoLocals, outcome_cell, outcome_settles}
 
@@ -32,6 +32,11 @@ abbrev pub cost_at : List CellFrame → List ℕ → ℕ → Option ℕ
 cost_at [] costs c = None
 cost_at (f ∷ frames) [] c = None
 cost_at (f ∷ frames) (n ∷ costs) c = cond (f.cell == c) (Some n) (cost_at frames costs c)
+
+-- the newest frame of a cell says that it has ended ok
+abbrev pub ended : Option CellFrame → Bool
+ended None = false
+ended (Some f) = is_ok f.status
 
 -- ---- one cell
 
@@ -171,6 +176,19 @@ ended_first [] f gs c off is none =
 ended_first (g ∷ fs) f gs c off is none =
     let parts = or_parts (g.cell == c) _ off in
     ap (λ b. (b && is_ok g.status) || ended_ok (fs ++ f ∷ [] ++ gs) c) parts.0 ∙ ended_first fs f gs c parts.1 is none
+
+-- where each cell has one frame, it is the newest one
+pub ended_newest : (frames : List CellFrame) (c : ℕ) → EachOnce (cells_of frames) → ended (frame_at frames c) ≡ ended_ok frames c
+ended_newest [] c once = refl
+ended_newest (f ∷ frames) c once =
+    let newest = λ (b : Bool). ended (cond b (Some f) (frame_at frames c)) in
+    let some = λ (b : Bool). (b && is_ok f.status) || ended_ok frames c in
+    ⊎_elim
+    (λ same.
+    let none : is_in c (cells_of frames) ≡ false = ap (λ a. is_in a (cells_of frames)) (sym (eqb-true f.cell c same)) ∙ once.0 in
+    ap newest same ∙ sym (ap some same ∙ or_none (is_ok f.status) (ended_ok frames c) (not_ended frames c none)))
+    (λ apart. ap newest apart ∙ ended_newest frames c once.1 ∙ sym (ap some apart))
+    (cases_Bool (f.cell == c))
 
 -- whether a cell has ended ok isn't changed by other cells
 ended_before : (nb : List Cell) (cells : List ℕ) (p q : Progress) (a : ℕ) → Adds nb cells p q → is_in a cells ≡ false

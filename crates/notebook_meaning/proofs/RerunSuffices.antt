@@ -1,6 +1,6 @@
 -- Kept under changes is computed afresh: when values are set, the cells that don't run again have in the new whole what they had in the
 -- old one, and the others, one after the other, have from the kept bindings what they have in the new whole.
-use Rattle.std.proofs.Common.{◌≡◌, ◌∙◌, refl, sym, ap, subst, ℕ, ◌<◌, ◌≤◌, arith, Bool, true, false, cond, ◌==◌, List, [], ◌∷◌, length, Option, Some, None, slice_get, ⊎_elim}
+use Rattle.std.proofs.Common.{◌≡◌, ◌∙◌, refl, sym, ap, subst, ℕ, ◌<◌, ◌≤◌, arith, true, false, cond, ◌==◌, List, [], ◌∷◌, length, Option, Some, None, slice_get, ⊎_elim}
 use Rattle.std.specs.List.{list_all}
 use Rattle.std.specs.Str.{bytes_eq}
 use Rattle.std.proofs.lemmas.Bool.{cases_Bool, cases_lt, false_from_ne_true, or_parts, both_ways}
@@ -21,7 +21,6 @@ use Rattle.py_value.proofs.SortedMaps.{IsSortedMap}
 use Rattle.notebook_meaning.specs.Answer.{named_so, names_of, next}
 use Rattle.notebook_meaning.specs.Graph.{names_at, defs_of, refs_of, elements_of, edge, is_in, parents, order}
 use Rattle.notebook_meaning.specs.LaidOver.{laid_over}
-use Rattle.notebook_meaning.specs.Meaning.{Env}
 use Rattle.notebook_meaning.specs.Reruns.{is_within, rerun}
 use Rattle.notebook_meaning.specs.Thin.{are_thin}
 use Rattle.notebook_meaning.specs.Thin as thin_form
@@ -32,7 +31,7 @@ use Rattle.notebook_meaning.specs.declared.frames.CellFrame.{CellFrame}
 use Rattle.notebook_meaning.proofs.AtKept.{HasNoElements, next_plain, whole_at_kept}
 use Rattle.notebook_meaning.proofs.Coincidence.{SameBinding, same_bound, one_element, one_binding}
 use Rattle.notebook_meaning.proofs.FixedPoint.{by_parents, cells_of, code_there, defs_are, frame_at, may_run_alike, outcome_in, ran_so, whole_frames, whole_only, whole_plain, whole_sorted}
-use Rattle.notebook_meaning.proofs.Going.{Ends, Going, Runs, going_ends}
+use Rattle.notebook_meaning.proofs.Going.{Going, Runs}
 use Rattle.notebook_meaning.proofs.InOrder.{any_at, any_name, defined_in, definer_below, one_definer, some_at}
 use Rattle.notebook_meaning.proofs.OneByOne.{SameResult, cell_referenced, first_filter, order_first, related_defined, same_result}
 use Rattle.notebook_meaning.proofs.Orders.{free_is_listed, places_below}
@@ -49,7 +48,7 @@ pub record AreTaken (nb : List Cell) (budget : ℕ) (ui sets : Map Value) : Type
 
 -- ---- elements
 
-element_bound : (x : Name) (o : Option Binding) (e : ElementData) → named_so x o ≡ Some e → o ≡ Some (Plain (V.Element e))
+pub element_bound : (x : Name) (o : Option Binding) (e : ElementData) → named_so x o ≡ Some e → o ≡ Some (Plain (V.Element e))
 element_bound x (Some (Plain (V.Element f))) e h = ap (λ f. Some (Plain (V.Element f))) (cond_some (bytes_eq f.name x) f e h).1
 element_bound x o e h = absurd (none-some e h)
 
@@ -75,7 +74,7 @@ laid_binding ui present x d e (one_element f) is kept bound =
     (kept_now d (look_up x present) f is ∙ present_over d (look_up x ui) f ∙ ap (with_present d) (ap (element_or e) bound))
 
 -- the elements that a cell creates are among its definitions
-elements_defined : (nb : List Cell) (c : ℕ) (x : Name) → are_thin nb ≡ true → is_among x (elements_of nb c) ≡ true → is_among x (defs_of nb c) ≡ true
+pub elements_defined : (nb : List Cell) (c : ℕ) (x : Name) → are_thin nb ≡ true → is_among x (elements_of nb c) ≡ true → is_among x (defs_of nb c) ≡ true
 elements_defined nb c x thin h = by (slice_get nb c) refl h
   where
     by : (o : Option Cell) → slice_get nb c ≡ o → is_among x (names_at elements o) ≡ true → is_among x (names_at defs (slice_get nb c)) ≡ true
@@ -177,15 +176,12 @@ module _ (nb : List Cell) (budget : ℕ) (ui sets : Map Value) (taken : AreTaken
   pub unchanged : (c : ℕ) → c < length nb → is_in c again ≡ false → Unchanged c
   unchanged = by_parents nb taken.runs.free (λ c. is_in c again ≡ false → Unchanged c) (λ c below before. unchanged_next c below before)
 
-  -- so its result is the same, and whether it has ended ok
+  -- so it has the same frame
   pub frame_kept : (c : ℕ) → is_in c again ≡ false → frame_at new.frames c ≡ frame_at old.frames c
   frame_kept c off = ⊎_elim
       (λ below. let u = unchanged c below off in sym u.result.frame)
       (λ past. past_framed nb budget present c past ∙ sym (past_framed nb budget ui c past))
       (cases_lt c (length nb))
-
-  pub ended_kept : (c : ℕ) → c < length nb → is_in c again ≡ false → ended_ok old.frames c ≡ ended_ok new.frames c
-  ended_kept c below off = let u = unchanged c below off in u.result.ended
 
   -- ---- the bindings
 
@@ -240,17 +236,11 @@ module _ (nb : List Cell) (budget : ℕ) (ui sets : Map Value) (taken : AreTaken
 
   -- ---- the cells that run again
 
-  -- They start from those bindings, and with what the old results say of the other cells.
-  pub going_again : Going nb budget present [] again (laid_over sets old.env) (ended_ok old.frames) [] 0
-  going_again = record {
+  -- They start from those bindings, and with the frames that all cells had in the old whole.
+  pub going_again : (newest : ℕ → Option CellFrame) → ((a : ℕ) → a < length nb → newest a ≡ frame_at old.frames a)
+      → Going nb budget present again (laid_over sets old.env) newest
+  going_again newest was = record {
     first = first_filter nb (is_within nb (names_of sets) (length nb)) (order nb) (order_first nb);
     but = record { same = bindings_kept; plain = laid_plain; sorted = subst IsSortedMap (sym (laid_is sets old.env)) (sorted_laid old.env sets old.env (whole_sorted nb budget ui)) };
-    ended = ended_kept;
-    frames_are = refl;
-    cost_is = refl;
+    newest_is = λ a below off. was a below ∙ sym (frame_kept a off);
   }
-
-  -- Where none of them is left, the bindings are those of the new whole, and the frames and the cost are those of the answer.
-  pub again_ends : (env : Env) (ok : ℕ → Bool) (frames : List CellFrame) (cost : ℕ)
-      → Going nb budget present again [] env ok frames cost → Ends nb budget present again env frames cost
-  again_ends env ok frames cost g = going_ends nb budget present (is_within nb (names_of sets) (length nb)) env ok frames cost g

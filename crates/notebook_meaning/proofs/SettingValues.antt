@@ -88,9 +88,10 @@ laid_passed before (s ∷ sets) env x off =
 
 -- ---- names for which one is
 
--- what is set at the name: its present value from now on, and the element with it
+-- what is set at the name: its present value from now on, which the element has made of a value, and the element with it
 pub record IsLaid (before : Env) (sets ui : Map Value) (env : Env) (x : Name) (e : ElementData) : Type 0 where
   pub now : Data
+  pub fit : (d : Data) × (admitted e d ≡ Some now)
   pub value : look_up x (with_sets before sets ui) ≡ Some (value_of now)
   pub element : look_up x (laid_by before sets env) ≡ Some (Plain (V.Element (with_present now e)))
 
@@ -98,6 +99,7 @@ laid_here : (before : Env) (s : Name × Value) (sets ui : Map Value) (env : Env)
     → element_in before s.0 ≡ Some e → is_among s.0 (names_of sets) ≡ false → IsLaid before (s ∷ sets) ui env s.0 e
 laid_here before s sets ui env e d is there off = record {
   now = d;
+  fit = (data_of s.1, sym (ap (option_and_then (λ e. admitted e (data_of s.1))) there) ∙ is);
   value = sets_passed before sets (with_value s.0 (value_set before s) ui) s.0 off
       ∙ ap (λ o. look_up s.0 (with_value s.0 o ui)) is ∙ look_up-put s.0 (value_of d) ui;
   element = laid_passed before sets (with_element s.0 (element_in before s.0) (value_set before s) env) s.0 off
@@ -110,7 +112,7 @@ laid_at before [] ui env x e all h there = absurd (both_ways false refl h)
 laid_at before (s ∷ sets) ui env x e all h there = ⊎_elim
     (λ later.
     let r = laid_at before sets (with_value s.0 (value_set before s) ui) (with_element s.0 (element_in before s.0) (value_set before s) env) x e all.1 later there in
-    record { now = r.now; value = r.value; element = r.element })
+    record { now = r.now; fit = r.fit; value = r.value; element = r.element })
     (λ off. ⊎_elim
     (λ same.
     let is : s.0 ≡ x = name_of s.0 x same in
@@ -164,7 +166,7 @@ pub data SameButPresent : Option ElementData → Option ElementData → Type 0 w
 abbrev pub IsLike : Env → Env → Type 0
 IsLike before env = (x : Name) → SameButPresent (element_in before x) (element_in env x)
 
-same_element : (o : Option ElementData) → SameButPresent o o
+pub same_element : (o : Option ElementData) → SameButPresent o o
 same_element None = no_element
 same_element (Some e) = one_element e e.present
 
@@ -172,7 +174,7 @@ admitted_alike : (k : Kind) (e : ElementData) (present d : Data) → admitted_by
 admitted_alike kind.Slider e present d = refl
 admitted_alike k e present d = refl
 
-value_alike : (d : Data) {o p : Option ElementData} → SameButPresent o p → option_and_then (λ e. admitted e d) p ≡ option_and_then (λ e. admitted e d) o
+pub value_alike : (d : Data) {o p : Option ElementData} → SameButPresent o p → option_and_then (λ e. admitted e d) p ≡ option_and_then (λ e. admitted e d) o
 value_alike d no_element = refl
 value_alike d (one_element e present) = admitted_alike e.kind e present d
 

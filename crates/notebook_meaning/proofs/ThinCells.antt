@@ -4,29 +4,29 @@ use Rattle.std.specs.Prelude.{codes}
 use Rattle.std.proofs.lemmas.Bool.{both_ways, and_parts, or_cases, not-true, not_from_false, or_from, false_from_ne_true, eqb-true}
 use Rattle.std.proofs.lemmas.List.Folds.{list_any-append}
 use Rattle.std.proofs.lemmas.Option.{none-some, same_Some}
-use Rattle.py_tree.specs.Elements.{ui_kind, created_by, head_elements, created, elements}
+use Rattle.py_tree.specs.Elements.{is_mo, is_mo_ui, ui_kind, created_by, head_elements, created, elements}
 use Rattle.py_tree.specs.Names.{Name, is_among, is_local, is_lower, builtins, keywords, unused_keywords}
 use Rattle.py_tree.specs.Scope.{reads, all_reads, head_binds, head_reads, bound, read_names, defs, refs}
 use Rattle.py_tree.specs.Trees.{Tree, literal, name, sum, attribute, call, Trees, none, more, Head, value, assign, import_mo, stmt, Stmts, end, then_comes, Cell}
 use Rattle.py_value.specs.Maps.{Map}
 use Rattle.py_value.specs.declared.types.Value.{Value}
 use Rattle.notebook_meaning.specs.Meaning.{Env}
-use Rattle.notebook_meaning.specs.Thin.{Elements, reserved, is_plain_name, is_name, is_number_tree, is_called, is_slider_name, is_term, is_chain, is_sum, is_mo_ui, is_maker, are_bounds, makes_slider, is_target, is_line, stands_alone, is_empty, are_lines, line_count, is_plain, is_whole, is_cell, are_cells, elements_of, are_thin}
+use Rattle.notebook_meaning.specs.Thin.{Elements, reserved, is_plain_name, is_name, is_number_tree, is_slider_name, is_term, is_chain, is_sum, is_maker, are_bounds, makes_slider, is_target, is_line, stands_alone, is_empty, are_lines, line_count, is_plain, is_whole, is_cell, are_cells, elements_of, are_thin}
 use Rattle.notebook_meaning.specs.Whole.{without_defs, outcome_of}
 use Rattle.py_value.proofs.SortedMaps.{name_of}
 use Rattle.notebook_meaning.proofs.LookUps.{Agree, among_one, among_left, among_right, bound_defs, read_refs}
 use Rattle.notebook_meaning.proofs.Coincidence.{without_both, AgreeAfter, same_by_reads, AlikeAfter, same_but_present}
 
-among_cases : (x : Name) (xs ys : List Name) → is_among x (xs ++ ys) ≡ true → (is_among x xs ≡ true) ⊎ (is_among x ys ≡ true)
+pub among_cases : (x : Name) (xs ys : List Name) → is_among x (xs ++ ys) ≡ true → (is_among x xs ≡ true) ⊎ (is_among x ys ≡ true)
 among_cases x xs ys h = or_cases _ _ (sym (list_any-append _ xs ys) ∙ h)
 
-nothing : {A : Type 0} → false ≡ true → A
+pub nothing : {A : Type 0} → false ≡ true → A
 nothing h = absurd (both_ways false refl h)
 
 -- ---- names
 
 -- a name of the thin form
-name_plain : (x : Name) → is_name x ≡ true → is_local x ≡ false
+pub name_plain : (x : Name) → is_name x ≡ true → is_local x ≡ false
 name_plain [] h = nothing h
 name_plain (c ∷ cs) h = false_from_ne_true _ (λ underscore.
     let low : 97 ≤ c = leb-true 97 c (and_parts _ _ (and_parts (is_lower c) _ (and_parts _ _ h).0).0).0 in
@@ -82,12 +82,12 @@ bounds_read x (more a (more b none)) h here =
     (among_cases x (reads a) (reads b ++ []) here)
 bounds_read x (more a (more b (more c rest))) h here = nothing h
 
-called_read : (x y : Name) (t : Tree) → is_called y t ≡ true → is_among x (reads t) ≡ true → y ≡ x
-called_read x y (name z) h here = sym (name_of z y h) ∙ among_one x z here
-called_read x y t h here = nothing h
+mo_read : (x : Name) (t : Tree) → is_mo t ≡ true → is_among x (reads t) ≡ true → codes "mo" ≡ x
+mo_read x (name z) h here = sym (name_of z (codes "mo") h) ∙ among_one x z here
+mo_read x t h here = nothing h
 
 mo_ui_read : (x : Name) (t : Tree) → is_mo_ui t ≡ true → is_among x (reads t) ≡ true → codes "mo" ≡ x
-mo_ui_read x (attribute base y) h here = called_read x (codes "mo") base (and_parts _ _ h).0 here
+mo_ui_read x (attribute base y) h here = mo_read x base (and_parts _ _ h).0 here
 mo_ui_read x t h here = nothing h
 
 maker_read : (x : Name) (t : Tree) → is_maker t ≡ true → is_among x (reads t) ≡ true → codes "mo" ≡ x
@@ -116,7 +116,7 @@ line_read es x import_mo h here = nothing here
 
 -- ---- what a line creates
 
-created_one : (k : Option Name) (x y : Name) → is_among x (created_by k y) ≡ true → y ≡ x
+pub created_one : (k : Option Name) (x y : Name) → is_among x (created_by k y) ≡ true → y ≡ x
 created_one None x y h = nothing h
 created_one (Some kind) x y h = among_one x y h
 
@@ -174,7 +174,7 @@ lines_read es n x (then_comes (stmt k head block) rest) h here =
     ⊎_elim (line_read es x head f.line) (lines_read es (n + 1) x rest f.later) (read_cases es n k head block rest x f here)
 
 -- lines of which none stands alone create nothing
-plain_creates : (es : Elements) (n : ℕ) (x : Name) (b : Stmts) → are_lines es n b ≡ true → is_plain b ≡ true → is_among x (created b) ≡ true → ⊥
+pub plain_creates : (es : Elements) (n : ℕ) (x : Name) (b : Stmts) → are_lines es n b ≡ true → is_plain b ≡ true → is_among x (created b) ≡ true → ⊥
 plain_creates es n x end h plain here = nothing here
 plain_creates es n x (then_comes (stmt k head block) rest) h plain here =
     let f = first_line es n k head block rest h in
@@ -225,7 +225,7 @@ thin_apart es n c h x read = false_from_ne_true _ (λ here.
     (or_cases (nat_le (line_count c.body) 1) (is_plain c.body)
     (and_parts ((c.line == n) && not (is_empty c.body) && are_lines es (n + 2) c.body) (is_whole c.body) h).1))
 
-created_named : (es : Elements) (n : ℕ) (x : Name) (b : Stmts) → are_lines es n b ≡ true → is_among x (created b) ≡ true → is_name x ≡ true
+pub created_named : (es : Elements) (n : ℕ) (x : Name) (b : Stmts) → are_lines es n b ≡ true → is_among x (created b) ≡ true → is_name x ≡ true
 created_named es n x end h here = nothing here
 created_named es n x (then_comes (stmt k head block) rest) h here =
     let f = first_line es n k head block rest h in

@@ -1,5 +1,5 @@
 -- What one visitor alone is sent.
-use Rattle.std.specs.Prelude.{ℕ, ◌+◌, Bool, not, cond, is_none, List, [], ◌∷◌, ◌++◌, length, map, filter, find, flat_map, sum, Option, Some, None, option_and_then}
+use Rattle.std.specs.Prelude.{ℕ, Bool, false, not, cond, is_none, List, [], ◌∷◌, ◌++◌, length, map, filter, find, flat_map, sum_by, Option, Some, None, option_and_then}
 use Rattle.std.specs.Str.{bytes_eq}
 use Rattle.py_tree.specs.Names.{Name, is_among}
 use Rattle.py_tree.specs.Trees.{Cell}
@@ -18,36 +18,59 @@ use Rattle.notebook_meaning.specs.declared.frames.Frame.TheVariants as frame
 use Rattle.notebook_meaning.specs.Graph.{elements_of, is_in}
 use Rattle.notebook_meaning.specs.Meaning.{Env}
 use Rattle.notebook_meaning.specs.Reruns.{rerun}
-use Rattle.notebook_meaning.specs.Whole.{Progress, whole}
+use Rattle.notebook_meaning.specs.Whole.{whole}
 
--- a visitor's state: before the opening, on with the present values that were set, or ended
+-- a visitor's state: before the opening, or on with the present values that were set
 pub data State : Type 0 where
   Before : State
   On : (ui : Map Value) → State
-  Ended : State
 
--- what a visitor sends: the opening, or values for elements by their names
+-- what a visitor sends: the opening, values for elements by their names, in the order of the names' bytes, or what is no message
 pub data Message : Type 0 where
   Open : Message
   Set : (sets : Map Value) → Message
+  Other : Message
 
--- the state after a message, the frames of its answer, and the steps of the cells that run for it
+-- a part of an answer: a frame, and the steps of the cell that runs for it
+pub record Part : Type 0 where
+  pub frame : Frame
+  pub cost : ℕ
+
+-- the state after a message, and the parts of its answer
 pub record Answered : Type 0 where
   pub state : State
-  pub frames : List Frame
-  pub work : ℕ
+  pub parts : List Part
 
--- the frames of cells, and their number
-abbrev pub answer_of : List CellFrame → List Frame
-answer_of frames = map frame.Cell frames ++ frame.Done (length frames) ∷ []
+-- a frame for which no cell runs
+abbrev pub at_no_cost : Frame → Part
+at_no_cost f = record { frame = f; cost = 0 }
 
--- the frames of the opening: one for each cell in the order, and their number
-abbrev pub opening : List Cell → ℕ → List Frame
-opening nb budget = answer_of (whole nb budget []).frames
+-- the results of cells, each with what it costs
+abbrev pub priced : List CellFrame → List ℕ → List Part
+priced [] costs = []
+priced (f ∷ frames) [] = []
+priced (f ∷ frames) (n ∷ costs) = record { frame = frame.Cell f; cost = n } ∷ priced frames costs
 
--- a refused message has its one frame, and changes nothing
+-- the results of all cells when the whole notebook runs from nothing
+abbrev pub results : List Cell → ℕ → Map Value → List Part
+results nb budget ui = let after = whole nb budget ui in priced after.frames after.costs
+
+-- the frame is the result of one of these cells
+abbrev pub is_result_of : List ℕ → Frame → Bool
+is_result_of cells (frame.Cell f) = is_in f.cell cells
+is_result_of cells f = false
+
+-- the results of these cells, in order
+abbrev pub results_of : List Cell → ℕ → Map Value → List ℕ → List Part
+results_of nb budget ui cells = filter (λ (p : Part). is_result_of cells p.frame) (results nb budget ui)
+
+-- results of cells, and their number
+abbrev pub counted : List Part → List Part
+counted parts = parts ++ at_no_cost (frame.Done (length parts)) ∷ []
+
+-- a refused message is answered with why, and changes nothing
 abbrev pub refused : State → Frame → Answered
-refused state why = record { state = state; frames = why ∷ frame.Done 0 ∷ []; work = 0 }
+refused state why = record { state = state; parts = at_no_cost why ∷ at_no_cost (frame.Done 0) ∷ [] }
 
 -- the element to which its name is bound
 abbrev pub named_so : Name → Option Binding → Option ElementData
@@ -58,7 +81,7 @@ named_so x b = None
 abbrev pub element_in : Env → Name → Option ElementData
 element_in env x = named_so x (look_up x env)
 
--- what a value that is sent sets its element to; none where the element doesn't admit it
+-- what a value that is sent sets its element to; none where no such element is in being, and where it doesn't admit the value
 abbrev pub value_set : Env → Name × Value → Option Data
 value_set env s = option_and_then (λ e. admitted e (data_of s.1)) (element_in env s.0)
 
@@ -79,22 +102,11 @@ abbrev pub next : List Cell → Env → Map Value → Map Value → Map Value
 next nb env ui sets =
     where_name (λ x. not (is_among x (flat_map (elements_of nb) (rerun nb (names_of sets))))) (with_sets env sets ui)
 
--- the results of these cells, in order, and what they cost
-abbrev pub frames_of : List ℕ → List CellFrame → List CellFrame
-frames_of cells frames = filter (λ (f : CellFrame). is_in f.cell cells) frames
-
-abbrev pub costs_of : List ℕ → List CellFrame → List ℕ → ℕ
-costs_of cells [] costs = 0
-costs_of cells (f ∷ frames) [] = 0
-costs_of cells (f ∷ frames) (n ∷ costs) = cond (is_in f.cell cells) n 0 + costs_of cells frames costs
-
 -- the answer to values that elements admit: the cells that run again, with the new present values
 abbrev pub answer_with : List Cell → ℕ → Map Value → List ℕ → Answered
-answer_with nb budget ui cells =
-    let after = whole nb budget ui in
-    record { state = On ui; frames = answer_of (frames_of cells after.frames); work = costs_of cells after.frames after.costs }
+answer_with nb budget ui cells = record { state = On ui; parts = counted (results_of nb budget ui cells) }
 
--- the first name that is no element's, and the first whose element doesn't admit the value
+-- the answer by the first name that is no element's, if there is one, and else by the first whose element doesn't admit its value
 abbrev pub answer_by : List Cell → ℕ → Env → Map Value → Map Value → Option (Name × Value) → Option (Name × Value) → Answered
 answer_by nb budget env ui sets (Some s) unfit = refused (On ui) (frame.NoElement s.0)
 answer_by nb budget env ui sets None (Some s) = refused (On ui) (frame.NoValue s.0)
@@ -106,22 +118,40 @@ answer_set nb budget env ui sets =
 
 -- the answer to a message, and the state after it
 abbrev pub answer : List Cell → ℕ → State → Message → Answered
-answer nb budget Before Open = record { state = On []; frames = opening nb budget; work = sum (whole nb budget []).costs }
+answer nb budget Before Open = record { state = On []; parts = counted (results nb budget []) }
 answer nb budget Before (Set sets) = refused Before frame.BadOrder
+answer nb budget Before Other = refused Before frame.BadMessage
 answer nb budget (On ui) Open = refused (On ui) frame.BadOrder
 answer nb budget (On ui) (Set sets) = answer_set nb budget (whole nb budget ui).env ui sets
-answer nb budget Ended m = record { state = Ended; frames = []; work = 0 }
+answer nb budget (On ui) Other = refused (On ui) frame.BadMessage
 
--- the answers one after the other, from a state
+-- the parts of the answers one after the other, from a state
+abbrev pub parts_from : List Cell → ℕ → State → List Message → List Part
+parts_from nb budget state [] = []
+parts_from nb budget state (m ∷ ms) = let a = answer nb budget state m in a.parts ++ parts_from nb budget a.state ms
+
+-- the state after messages
+abbrev pub state_after : List Cell → ℕ → State → List Message → State
+state_after nb budget state [] = state
+state_after nb budget state (m ∷ ms) = state_after nb budget (answer nb budget state m).state ms
+
+abbrev pub frames_in : List Part → List Frame
+frames_in parts = map (λ (p : Part). p.frame) parts
+
+-- what parts of answers cost together
+abbrev pub cost_of_parts : List Part → ℕ
+cost_of_parts parts = sum_by (λ (p : Part). p.cost) parts
+
+-- the frames of the answers one after the other, from a state, and the steps of all cells that run for them
 abbrev pub solo_from : List Cell → ℕ → State → List Message → List Frame
-solo_from nb budget state [] = []
-solo_from nb budget state (m ∷ ms) = let a = answer nb budget state m in a.frames ++ solo_from nb budget a.state ms
+solo_from nb budget state ms = frames_in (parts_from nb budget state ms)
 
--- the frames of a visitor alone
+abbrev pub work_from : List Cell → ℕ → State → List Message → ℕ
+work_from nb budget state ms = cost_of_parts (parts_from nb budget state ms)
+
+-- the frames of a visitor alone, and the steps of all cells that run for them
 abbrev pub solo : List Cell → ℕ → List Message → List Frame
 solo nb budget = solo_from nb budget Before
 
--- the steps of all cells that run for the messages
-abbrev pub work_from : List Cell → ℕ → State → List Message → ℕ
-work_from nb budget state [] = 0
-work_from nb budget state (m ∷ ms) = let a = answer nb budget state m in a.work + work_from nb budget a.state ms
+abbrev pub work : List Cell → ℕ → List Message → ℕ
+work nb budget = work_from nb budget Before

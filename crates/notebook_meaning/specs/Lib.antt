@@ -4,6 +4,7 @@ pub mod FrameText
 pub mod Graph
 pub mod LaidOver
 pub mod Meaning
+pub mod Messages
 pub mod Once
 pub mod Reruns
 pub mod Runs

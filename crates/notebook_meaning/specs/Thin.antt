@@ -2,6 +2,7 @@
 use Rattle.std.specs.Prelude.{◌≡◌, ℕ, ◌+◌, ◌≤◌, Bool, true, false, if◌then◌else◌, cond, not, ◌&&◌, ◌||◌, ◌==◌, nat_le, IsTrue, List, [], ◌∷◌, ◌++◌, length, flat_map, sum_by, codes}
 use Rattle.std.specs.List.{list_all, list_any}
 use Rattle.std.specs.Str.{bytes_eq}
+use Rattle.py_tree.specs.Elements.{is_mo_ui}
 use Rattle.py_tree.specs.Names.{Name, is_among, is_lower, is_digit, keywords, unused_keywords, builtins}
 use Rattle.py_tree.specs.Numbers.{number_of}
 use Rattle.py_tree.specs.Levels.{is_literal}
@@ -31,14 +32,6 @@ is_number_tree (name x) = false
 is_number_tree (sum a b) = false
 is_number_tree (attribute base x) = false
 is_number_tree (call callee args) = false
-
--- this name
-abbrev pub is_called : Name → Tree → Bool
-is_called x (literal token) = false
-is_called x (name y) = bytes_eq y x
-is_called x (sum a b) = false
-is_called x (attribute base y) = false
-is_called x (call callee args) = false
 
 -- the name of a slider
 abbrev pub is_slider_name : Elements → Tree → Bool
@@ -75,14 +68,6 @@ terms (call callee args) = 1
 -- 1 to 32 terms
 abbrev pub is_sum : Elements → Tree → Bool
 is_sum es t = is_chain es t && nat_le (terms t) 32
-
--- `mo.ui`
-abbrev pub is_mo_ui : Tree → Bool
-is_mo_ui (literal token) = false
-is_mo_ui (name x) = false
-is_mo_ui (sum a b) = false
-is_mo_ui (attribute base x) = is_called (codes "mo") base && bytes_eq x (codes "ui")
-is_mo_ui (call callee args) = false
 
 -- `mo.ui.slider`
 abbrev pub is_maker : Tree → Bool

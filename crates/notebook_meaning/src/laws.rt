@@ -1,20 +1,27 @@
 // Worked notebooks and laws, computed and proved from the definitions.
-ghost use Rattle.std.specs.Prelude.{◌≡◌, ◌↔◌, ℕ, ◌<◌, nat_eq, true, IsTrue, List, [], ◌∷◌, ◌++◌, length, codes, map, sum, Some, None};
+ghost use Rattle.std.specs.Prelude.{◌≡◌, ◌↔◌, ℕ, ◌<◌, nat_eq, true, IsTrue, List, [], ◌∷◌, ◌++◌, length, codes, map, pos, sum, Some, None};
 ghost use Rattle.std.specs.List.{IsDistinct};
-ghost use Rattle.py_tree.specs.Names.{Name};
+ghost use Rattle.py_tree.specs.Names.{Name, is_among};
 ghost use Rattle.py_tree.specs.Trees.{Tree, Stmts, Cell};
 ghost use Rattle.py_value.specs.ElementData.{ElementData};
+ghost use Rattle.py_value.specs.Maps.{Map, look_up};
+ghost use Rattle.py_value.specs.View.{value_of as value_in};
+ghost use Rattle.py_value.specs.declared.types.Data.{Data};
+ghost use Rattle.py_value.specs.declared.types.Value.{Value};
 ghost use Rattle.py_value.specs.declared.types.Value.TheVariants as V;
 ghost use Rattle.py_value.specs.declared.error_kind.ErrorKind.TheVariants.{RuntimeError};
-ghost use Rattle.notebook_meaning.specs.Graph.{order, is_in, LiesOnCycle, NoneCyclic};
+ghost use Rattle.notebook_meaning.specs.Answer.{Before, On, Message, Open, Set, answer, cost_of_parts, element_in, frames_in, parts_from, state_after, value_set};
+ghost use Rattle.notebook_meaning.specs.Graph.{elements_of, order, is_in, LiesOnCycle, NoneDoubled, NoneCyclic};
 ghost use Rattle.notebook_meaning.specs.Meaning.{Scene, Env, value_of, block_of};
-ghost use Rattle.notebook_meaning.specs.Reruns.{is_within, rerun, IsReached};
+ghost use Rattle.notebook_meaning.specs.Messages.{IsMessage};
+ghost use Rattle.notebook_meaning.specs.Reruns.{rerun, IsReached};
 ghost use Rattle.notebook_meaning.specs.Runs.{HasOneRun};
-ghost use Rattle.notebook_meaning.specs.Whole.{whole};
+ghost use Rattle.notebook_meaning.specs.Whole.{ended_ok, whole};
 ghost use Rattle.notebook_meaning.specs.Fails.{FailsAt};
+ghost use Rattle.notebook_meaning.specs.FrameText.{frame_lines};
 ghost use Rattle.notebook_meaning.specs.Thin.{are_thin, file_lines, text_of};
 ghost use Rattle.notebook_meaning.specs.Once.{IsAccepted, Doubly, Cycle, FailsFirst, refusal_text, usual_budget, once_text};
-ghost use Rattle.notebook_meaning.specs.Samples.{three_cells, three_cells_file, three_cells_text, lone_name, lone_name_text, failing, failing_text, doubled, cyclic, diamond, too_great, too_great_text, four_steps, with_slider, with_slider_file, with_slider_text, s_at_four, reads_s};
+ghost use Rattle.notebook_meaning.specs.Samples.{three_cells, three_cells_file, three_cells_text, lone_name, lone_name_text, failing, failing_text, doubled, cyclic, diamond, too_great, too_great_text, four_steps, with_slider, with_slider_file, with_slider_text, with_slider_answers, s_at_four, reads_s};
 ghost use Rattle.notebook_meaning.specs.Spending.{Failed, Spent, runs, cost_of};
 ghost use Rattle.notebook_meaning.specs.declared.binding.Binding.TheVariants.{Plain};
 ghost use Rattle.notebook_meaning.specs.declared.frames.CellFrame.{CellFrame};
@@ -27,9 +34,10 @@ pub fn order_and_cycles()
     ensures none { (nb : List Cell) (c : ℕ) → is_in c (order nb) ≡ true → LiesOnCycle nb c → ⊥ }
 {}
 
-/// A cell runs again where a chain leads to it from a cell that references one of the names, and no cell does so twice.
+/// The cells that run again are those to which a chain leads from a cell that references one of the names, each once.
 pub fn what_runs_again()
-    ensures reached { (nb : List Cell) (names : List Name) (c : ℕ) → (IsTrue (is_within nb names (length nb) c) ↔ IsReached nb names c) }
+    ensures reached { (nb : List Cell) (names : List Name) → NoneCyclic nb → (c : ℕ) → c < length nb
+        → (IsTrue (is_in c (rerun nb names)) ↔ IsReached nb names c) }
     ensures once { (nb : List Cell) (names : List Name) → IsDistinct nat_eq (rerun nb names) }
     ensures diamond { rerun diamond (codes "base" ∷ []) ≡ 1 ∷ 2 ∷ 0 ∷ [] }
 {}
@@ -38,6 +46,11 @@ pub fn what_runs_again()
 pub fn one_run()
     ensures expression { (scene : Scene) (env : Env) (line : ℕ) (t : Tree) → HasOneRun (value_of scene env line t) }
     ensures block { (scene : Scene) (env : Env) (block : Stmts) → HasOneRun (block_of scene env block) }
+{}
+
+/// No bytes are two messages.
+pub fn messages_are_read_one_way()
+    ensures one { (bytes : List ℕ) (m k : Message) → IsMessage bytes m → IsMessage bytes k → m ≡ k }
 {}
 
 /// What the definitions say of small notebooks: the order, the file, what is written for them, what their cells cost, and why one is
@@ -78,6 +91,29 @@ pub fn worked_slider()
         ≡ None ∷ None ∷ Some (record { text = codes "5"; kind = output.Plain }) ∷ [] }
     ensures own { (e : ElementData) → e.name ≡ codes "s"
         → runs (record { own = codes "s" ∷ []; present = [] }) ((codes "s", Plain (V.Element e)) ∷ []) reads_s 10 ≡ Failed RuntimeError 5 7 [] }
+{}
+
+/// What a visitor of that notebook is sent who opens it, sets the slider to 4 and then to 11, which it doesn't admit, and the steps of
+/// the cells that run for each answer.
+pub fn worked_answers()
+    ensures frames { frame_lines (frames_in (parts_from with_slider usual_budget Before
+        (Open ∷ Set ((codes "s", V.Int (pos 4)) ∷ []) ∷ Set ((codes "s", V.Int (pos 11)) ∷ []) ∷ []))) ≡ with_slider_answers }
+    ensures opening { cost_of_parts (answer with_slider usual_budget Before Open).parts ≡ 10 }
+    ensures set { cost_of_parts (answer with_slider usual_budget (On []) (Set ((codes "s", V.Int (pos 4)) ∷ []))).parts ≡ 5 }
+    ensures refused { cost_of_parts (answer with_slider usual_budget (On s_at_four) (Set ((codes "s", V.Int (pos 11)) ∷ []))).parts ≡ 0 }
+{}
+
+/// What is in being where a visitor's messages have led: an element of each name that a cell creates which has ended ok, and no other;
+/// and each present value is that of an element in being, which admits it as it is.
+pub fn elements_in_being()
+    ensures being { (nb : List Cell) → are_thin nb ≡ true → NoneDoubled nb → NoneCyclic nb → (budget : ℕ) (ms : List Message) (ui : Map Value)
+        → state_after nb budget Before ms ≡ On ui → (x : Name)
+        → (((e : ElementData) × (element_in (whole nb budget ui).env x ≡ Some e))
+        ↔ ((c : ℕ) × (is_among x (elements_of nb c) ≡ true) × (ended_ok (whole nb budget ui).frames c ≡ true))) }
+    ensures present { (nb : List Cell) → are_thin nb ≡ true → NoneDoubled nb → NoneCyclic nb → (budget : ℕ) (ms : List Message) (ui : Map Value)
+        → state_after nb budget Before ms ≡ On ui → (x : Name) (v : Value) → look_up x ui ≡ Some v
+        → (e : ElementData) × (d : Data) × (element_in (whole nb budget ui).env x ≡ Some e)
+        × (value_set (whole nb budget ui).env (x, v) ≡ Some d) × (v ≡ value_in d) }
 {}
 
 /// At which lines small inputs fail: the empty file at its first line, and the file of no cells with a line `q` behind it at that line.

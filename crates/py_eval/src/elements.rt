@@ -30,6 +30,7 @@ fn is_one_of(name: &Text, names: &Lines) -> bool
 }
 
 /// The present value of an element, which can't be had in the cell that creates it.
+#[tactic(auto, using(crate::proofs::Present::seen))]
 pub fn present_of(alloc: Global, scene: &Scene, value: &Value, line: u32) -> Result<Value, Stop>
     ensures { (left : ℕ) → Meets (λ v. v) result left (spend (meaning.present_of (scene_of scene.now) line value.now) left []) }
 {

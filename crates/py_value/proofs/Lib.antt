@@ -1,4 +1,5 @@
 pub mod ByName
+pub mod Computes
 pub mod Equals
 pub mod EscapeRuns
 pub mod KeyFaults

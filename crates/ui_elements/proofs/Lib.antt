@@ -1,4 +1,3 @@
-pub mod Computes
 pub mod Fills
 pub mod Gaps
 pub mod Keys

@@ -15,7 +15,7 @@ use Rattle.py_value.specs.Dicts.{with_pair}
 use Rattle.py_value.specs.Elements.{Named, Params, Parameter, Arguments, Range, slider_parameters, are_words_of, argument, filled, given, number_in, range_at, is_in_range, slider, slider_by, slider_of, admits_number, admitted_by, admitted, made, param, number_at, has_text}
 use Rattle.py_value.proofs.Levels.{data_of-value_of}
 use Rattle.ui_elements.specs.Samples.{slider_names}
-use Rattle.ui_elements.proofs.Computes.{same_text, a_number}
+use Rattle.py_value.proofs.Computes.{same_text, a_number}
 
 -- what a slider admits is the number itself
 kept_number : (b : Bool) (n : ℤ) (c : Data) → cond b (Some (D.Int n)) None ≡ Some c → c ≡ D.Int n

@@ -6,7 +6,7 @@ use Rattle.notebook_meaning.specs.Graph.{NoneDoubled}
 use Rattle.notebook_meaning.specs.Samples.{with_slider}
 use Rattle.notebook_meaning.specs.Spending.{pay, show}
 use Rattle.notebook_meaning.proofs.Orders.{full_is_free}
-use Rattle.notebook_meaning.proofs.Sliders.{same_text, a_number, a_text}
+use Rattle.py_value.proofs.Computes.{same_text, a_number, a_text}
 use Rattle.notebook_meaning.proofs.laws.worked_slider.Goals as goal
 
 none_doubled : NoneDoubled with_slider

@@ -1,5 +1,5 @@
 -- Each worked call is computed.
-use Rattle.ui_elements.proofs.Computes.{same_text, a_number, a_truth, a_text}
+use Rattle.py_value.proofs.Computes.{same_text, a_number, a_truth, a_text}
 use Rattle.ui_elements.proofs.laws.worked_calls.Goals as goal
 
 pub returns-clause-two : goal.returns-clause-two
