@@ -24,25 +24,6 @@ map_at f [] c y h = let bad : None ≡ Some y = h in absurd cc
 map_at f (x ∷ xs) zero y h = let e : Some (f x) ≡ Some y = h in (x, refl, cc)
 map_at f (x ∷ xs) (suc c) y h = map_at f xs c y h
 
--- one cell more
-pub map_push : {X Y Z : Type 0} (f : Y → Z) (v : X → Y) (xs : List X) (x : X) → map f (map v (xs ++ x ∷ [])) ≡ map f (map v xs) ++ f (v x) ∷ []
-map_push f v [] x = refl
-map_push f v (y ∷ ys) x = ap (λ rest. f (v y) ∷ rest) (map_push f v ys x)
-
--- the definitions of each cell are those of the cells
-pub are_defs : (nb : List Cell) → AreDefs nb (map defs nb)
-are_defs nb = record {
-  count = length-map nb defs;
-  each = λ c names h. let p = map_at defs nb c names h in sym p.2 ∙ ap (names_at defs) (sym p.1);
-}
-
--- and so are the references
-pub are_refs : (nb : List Cell) → AreRefs nb (map refs nb)
-are_refs nb = record {
-  count = length-map nb refs;
-  each = λ c names h. let p = map_at refs nb c names h in sym p.2 ∙ ap (names_at refs) (sym p.1);
-}
-
 -- ---- tests of lists
 
 -- an element that passes the test

@@ -1,5 +1,5 @@
 // Names that a cell can take from other cells.
-ghost use Rattle.std.specs.Prelude.{◌≡◌, map};
+ghost use Rattle.std.specs.Prelude.{◌≡◌};
 ghost use Rattle.cell_graph.specs.Borrowed.{texts};
 ghost use Rattle.py_tree.specs.Names as names;
 ghost use Rattle.py_tree.specs.Scope as scope;

@@ -5,10 +5,11 @@ use Rattle.std.specs.Prelude.{nat_lt}
 use denote.Hole.Carrier.{roll}
 use Rattle.py_tree.specs.declared.tree.Expr.{Expr, roll-Expr, fold-roll-Expr}
 use Rattle.py_tree.specs.declared.tree.Expr.TheVariants.{Sum, Attribute, Call}
+use Rattle.py_tree.specs.declared.tree.Expr.TheVariants as variant
 use Rattle.py_tree.specs.declared.tree.Expr.TheOpen.{Expr-F}
 use Rattle.py_tree.specs.Levels.{is_levelled, are_levelled_trees, level}
 use Rattle.py_tree.specs.Names.{Name}
-use Rattle.py_tree.specs.Trees.{Tree, Trees, more, sum, attribute, call}
+use Rattle.py_tree.specs.Trees.{Tree, Trees, more, name, sum, attribute, call}
 use Rattle.py_tree.specs.View.{view, views, view_step}
 use Rattle.py_eval.proofs.Conjunctions.{and_left, and_right}
 
@@ -32,6 +33,15 @@ view_attribute a x = fold-roll-Expr Tree view_step (Expr-F.Attribute a x)
 -- an attribute of the code, whose base is borrowed
 pub is_attribute : (e a a' : Expr) (x : Name) → e ≡ Attribute a x → a' ≡ a → view e ≡ attribute (view a') x
 is_attribute e a a' x is base = ap view is ∙ view_attribute a x ∙ λ i. attribute (view (sym base i)) x
+
+view_name : (x : Name) → view (variant.Name x) ≡ name x
+unfolding roll-Expr roll
+view_name x = fold-roll-Expr Tree view_step (Expr-F.Name x)
+
+-- an attribute of the code, whose base is a name
+pub is_attribute_of_name : (e a a' : Expr) (y y' x : Name) → e ≡ Attribute a x → a' ≡ a → a' ≡ variant.Name y → y' ≡ y → view e ≡ attribute (name y') x
+is_attribute_of_name e a a' y y' x is base named read =
+    is_attribute e a a' x is base ∙ λ i. attribute ((ap view named ∙ view_name y ∙ ap name (sym read)) i) x
 
 view_call : (a : Expr) (es : List Expr) → view (Call a es) ≡ call (view a) (views es)
 unfolding roll-Expr roll

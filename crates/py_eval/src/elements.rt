@@ -1,5 +1,5 @@
 // Elements of the user interface.
-ghost use Rattle.std.specs.Prelude.{◌≡◌, ℕ, ◌≤◌, [], ◌∷◌, IsTrue, map, codes};
+ghost use Rattle.std.specs.Prelude.{◌≡◌, ℕ, ◌≤◌, [], IsTrue, codes};
 ghost use Rattle.notebook_meaning.specs.Meaning.{read_module, element_of, calls_for, made_at};
 ghost use Rattle.notebook_meaning.specs.Meaning as meaning;
 ghost use Rattle.notebook_meaning.specs.Spending.{spend};

@@ -1,11 +1,14 @@
 // The values of expressions.
-ghost use Rattle.std.specs.Prelude.{◌≡◌, ℕ, ◌<◌, ◌≤◌, [], ◌++◌, IsTrue, OnOk, codes};
+ghost use Rattle.std.specs.Prelude.{◌≡◌, ℕ, ◌<◌, ◌≤◌, [], IsTrue, OnOk, codes};
 ghost use Rattle.std.specs.Str.{bytes_eq};
 ghost use Rattle.notebook_meaning.specs.Meaning.{read, value_of, values_after, result_at};
+ghost use Rattle.notebook_meaning.specs.Meaning as meaning;
 ghost use Rattle.notebook_meaning.specs.Spending.{spend};
+ghost use Rattle.notebook_meaning.specs.Trace.{◌>>=◌ as ◌followed_by◌};
 ghost use Rattle.py_eval.specs.Meets.{Meets};
 ghost use Rattle.py_eval.specs.Shows.{scene_of};
 ghost use Rattle.py_tree.specs.Levels.{is_levelled, are_levelled_trees};
+ghost use Rattle.py_tree.specs.Trees as trees;
 ghost use Rattle.py_tree.specs.View.{view, views};
 ghost use Rattle.py_value.specs.Maps.{look_up};
 ghost use Rattle.py_value.specs.Whole.{sum_of};
@@ -51,6 +54,23 @@ fn sum(left: &Value, right: &Value, line: u32) -> Result<Value, Stop>
     }
 }
 
+// The present value of the element that a name is bound to. The element is only read, and not copied.
+fn present_of_name(
+    alloc: Global,
+    name: &str,
+    scene: &Scene,
+    env: &Env,
+    line: u32,
+    left: &mut u64,
+) -> Result<Value, Stop>
+    ensures meets { Meets (λ v. v) result left.new
+        (spend (value_of (scene_of scene.now) env.now line (trees.name name.now) followed_by meaning.present_of (scene_of scene.now) line) left.old []) }
+    ensures used { left.new ≤ left.old }
+{
+    charge(left, 1, line)?;
+    present_of(alloc, scene, bound_value(env, name, line)?, line)
+}
+
 /// The value of an expression on a line, for which so many steps are left.
 pub fn eval(
     alloc: Global,
@@ -75,11 +95,14 @@ pub fn eval(
             sum(&x, &y, line)
         }
         Expr::Attribute(base, name) => {
-            if is_value(name) {
-                let value = eval(alloc, base.get(), scene, env, line, left)?;
-                return present_of(alloc, scene, &value, line);
+            if !is_value(name) {
+                return Err(unknown_form(line));
             }
-            Err(unknown_form(line))
+            if let Expr::Name(base) = base.get() {
+                return present_of_name(alloc, base.items(), scene, env, line, left);
+            }
+            let value = eval(alloc, base.get(), scene, env, line, left)?;
+            present_of(alloc, scene, &value, line)
         }
         Expr::Call(_, _) => Err(unknown_form(line)),
     }

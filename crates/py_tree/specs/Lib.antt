@@ -3,7 +3,6 @@ pub mod Levels
 pub mod Names
 pub mod Numbers
 pub mod Scope
-pub mod Tokens
 pub mod Trees
 pub mod View
 pub mod formers

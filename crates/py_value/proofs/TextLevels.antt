@@ -13,9 +13,8 @@ use Rattle.py_value.specs.declared.types.Value.{Value}
 use Rattle.py_value.specs.declared.types.Value.TheVariants as V
 use Rattle.py_value.specs.View.{data_of, value_of, all_of, pairs_of}
 use Rattle.py_value.proofs.Levels.{data_of-value_of}
-use Rattle.py_value.specs.ElementData.{ElementData}
 use Rattle.py_value.specs.Quoted.{quoted}
-use Rattle.py_value.specs.Texts.{Spelling, alike, truth_text, listed, separator, tuple_end, items_text, pair_text, pairs_text, param_text, params_text, shown, spelling_step, spelling_of, spelling_of_pair, str_of, repr_of, element_text}
+use Rattle.py_value.specs.Texts.{Spelling, alike, truth_text, listed, separator, tuple_end, items_text, pair_text, pairs_text, param_text, params_text, shown, spelling_step, spelling_of, spelling_of_pair, str_of, repr_of}
 
 -- each level
 spelling-None : spelling_of D.None ≡ alike (codes "None")

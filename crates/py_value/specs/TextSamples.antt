@@ -1,5 +1,5 @@
 -- Worked values.
-use Rattle.std.specs.Prelude.{pos, true, List, [], ◌∷◌, ◌++◌, codes}
+use Rattle.std.specs.Prelude.{pos, true, [], ◌∷◌, ◌++◌, codes}
 use Rattle.py_value.specs.declared.kinds.Kind.TheVariants as kind
 use Rattle.py_value.specs.declared.types.Data.{Data}
 use Rattle.py_value.specs.declared.types.Data.TheVariants as D

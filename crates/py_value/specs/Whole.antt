@@ -1,6 +1,5 @@
 -- Whole numbers of signed 128 bits, and sums.
-use Rattle.std.specs.Prelude.{ℕ, ◌^◌, ℤ, pos, negsuc, ◌+ℤ◌, Bool, true, false, nat_lt, List, Option, Some, None, Result, Ok, Err, cond}
-use Rattle.std.specs.Fmt.{signed_decimal}
+use Rattle.std.specs.Prelude.{◌^◌, ℤ, pos, negsuc, ◌+ℤ◌, Bool, true, false, nat_lt, Option, Some, None, Result, Ok, Err, cond}
 use Rattle.py_value.specs.declared.types.Value.{Value}
 use Rattle.py_value.specs.declared.types.Value.TheVariants as V
 use Rattle.py_value.specs.declared.op_fault.OpFault.{OpFault}
@@ -41,7 +40,3 @@ sum_by m n fault = Err fault
 -- `+` (Python language reference, section 6.7)
 abbrev pub sum_of : Value → Value → Result Value OpFault
 sum_of v w = sum_by (number_of v) (number_of w) (joining_fault v w)
-
--- `str` of a whole number
-abbrev pub int_text : ℤ → List ℕ
-int_text z = signed_decimal z

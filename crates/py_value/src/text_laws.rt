@@ -5,7 +5,7 @@ ghost use Rattle.py_value.specs.declared.types.Data.{Data};
 ghost use Rattle.py_value.specs.declared.types.Data.TheVariants as D;
 ghost use Rattle.py_value.specs.ElementData.{ElementData};
 ghost use Rattle.py_value.specs.Quoted.{quoted};
-ghost use Rattle.py_value.specs.Texts.{truth_text, listed, tuple_end, kind_name, str_of, repr_of, element_text};
+ghost use Rattle.py_value.specs.Texts.{truth_text, listed, tuple_end, str_of, repr_of, element_text};
 ghost use Rattle.py_value.specs.TextSamples.{apostrophe, mixed, one_item, one_pair, slider};
 
 /// `repr` by the types of values, and `str`, which differs from it at a text alone.

@@ -1,6 +1,6 @@
 // What calls of elements make.
 ghost use Rattle.std.specs.Prelude.{◌≡◌, ◌⊎◌, Some, Ok, Err, IfErr, IfOk};
-ghost use Rattle.py_value.specs.Elements.{made, slider_of, given, slider_parameters};
+ghost use Rattle.py_value.specs.Elements.{made, slider_of, given};
 ghost use Rattle.ui_elements.specs.Calls.{arguments_of};
 
 use crate::args::Args;

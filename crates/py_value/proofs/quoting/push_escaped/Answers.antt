@@ -1,8 +1,8 @@
 -- The run goes on, or is written with what stands for the next byte.
-use Rattle.std.proofs.Common.{◌≡◌, ◌∙◌, ap, sym, subst, ◌++◌, ◌-◌, ◌+◌, ◌<◌, true, take, drop, get_or, length, refl, arith}
+use Rattle.std.proofs.Common.{◌≡◌, ◌∙◌, ap, sym, subst, ◌++◌, ◌-◌, ◌<◌, true, take, drop, get_or, length, refl, arith}
 use Rattle.std.proofs.lemmas.Str.{IsCharBoundary-start, IsCharBoundary-after_ascii}
 use Rattle.std.specs.Str.{IsCharBoundary}
-use Rattle.py_value.specs.Quoted.{escaped, is_escaped}
+use Rattle.py_value.specs.Quoted.{is_escaped}
 use Rattle.py_value.proofs.EscapeRuns.{escaped_ascii, run_begins, run_longer, run_written}
 use Rattle.py_value.proofs.quoting.push_escaped.Goals as goal
 use Rattle.py_value.proofs.quoting.push_escaped.Goals.{then-needs_escape+in_ok-push_str+in_ok-push_escape, else-needs_escape}

@@ -1,5 +1,5 @@
 -- Each type's texts are a level of the definitions.
-use Rattle.std.proofs.Common.{◌≡◌, ◌∙◌, ap, ◌++◌, length}
+use Rattle.std.proofs.Common.{◌∙◌, ap, ◌++◌, length}
 use Rattle.std.specs.Prelude.{codes}
 use Rattle.py_value.specs.Texts.{tuple_end}
 use Rattle.py_value.proofs.TextLevels.{repr-None, repr-Bool, repr-Int, repr-Text, repr-List, repr-Tuple, repr-Dict, repr-Element, repr-Html, items_are, pairs_are, str-Text, str_of_others}

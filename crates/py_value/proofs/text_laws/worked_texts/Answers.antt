@@ -1,8 +1,6 @@
 -- Each worked text is computed.
-use Rattle.std.proofs.Common.{◌≡◌, ◌∙◌, ap, sym, refl, arith}
-use Rattle.std.specs.Prelude.{codes}
 use Rattle.std.specs.Fmt.{digits}
-use Rattle.py_value.proofs.TextLevels.{repr-None, repr-Bool, repr-Int, repr-Text, repr-List, repr-Tuple, repr-Dict, repr-Element, repr-Html, str-Text}
+use Rattle.py_value.proofs.TextLevels.{repr-None, repr-Bool, repr-Int, repr-Text, repr-List, repr-Tuple, repr-Dict, repr-Element, str-Text}
 use Rattle.py_value.proofs.text_laws.worked_texts.Goals as goal
 
 pub returns-clause-apostrophe : goal.returns-clause-apostrophe
