@@ -123,9 +123,6 @@ line_one es fs a b p q e =
     let text : head_text a ≡ head_text b = append_cancel_left (codes "    ") _ _ e in
     line_alike es fs (head_text b) a b (ap (read_line es) (sym text) ∙ line_only es a p) (line_only fs b q)
 
-pub stands_alike : (es fs : Elements) (a b : Head) → IsTrue (is_line es a) → IsTrue (is_line fs b) → line_text a ≡ line_text b → stands_alone a ≡ stands_alone b
-stands_alike es fs a b p q e = ap stands_alone (line_one es fs a b p q e)
-
 -- ---- the bytes of a line
 
 unbroken_byte : (b : ℕ) → is_word_byte b ≡ true → not (eqb b 10) ≡ true
@@ -168,11 +165,6 @@ indented_by : (es : Elements) (text : List ℕ) (h : Head) → read_line es text
     → (b : ℕ) × (rest : List ℕ) × (text ≡ b ∷ rest) × (b ≡ 32 → ⊥)
 indented_by es [] h e = absurd (none_some (sym (empty_no_line es) ∙ e))
 indented_by es (b ∷ rest) h e = (b, rest, refl, λ same. spaced_no_line es rest h (subst (λ b. read_line es (b ∷ rest) ≡ Some h) same e))
-
-pub line_indented : (es : Elements) (h : Head) → IsTrue (is_line es h) → (b : ℕ) × (rest : List ℕ) × (line_text h ≡ codes "    " ++ b ∷ rest) × (b ≡ 32 → ⊥)
-line_indented es h e =
-    let first = indented_by es (head_text h) h (line_only es h e) in
-    (first.0, first.1, ap (λ t. codes "    " ++ t) first.2, first.3)
 
 no_last : (es : Elements) → read_line es (codes "app.run()") ≡ None
 unfolding without_back

@@ -16,7 +16,7 @@ use Rattle.line_parser.proofs.Places.{text-append}
 use Rattle.line_parser.proofs.Stops.{alone_only}
 use Rattle.notebook_meaning.specs.Fails.{is_body_line, IsAlone, IsFormless, LinesFit, FailsAt}
 use Rattle.notebook_meaning.specs.Graph.{all_cells, is_in, name_again, first_definer, IsDoubled, NoneDoubled, AreCyclic, NoneCyclic}
-use Rattle.notebook_meaning.specs.Once.{IsAccepted, Refusal, Thin, Doubly, Cycle, FailsFirst}
+use Rattle.notebook_meaning.specs.Program.{IsAccepted, Refusal, Thin, Doubly, Cycle, FailsFirst}
 use Rattle.notebook_meaning.specs.Thin.{Elements, decorator_line, main_line, file_lines, text_of}
 use Rattle.py_tree.specs.Names.{Name}
 use Rattle.py_tree.specs.Trees.{Cell}

@@ -5,7 +5,7 @@ ghost use Rattle.line_parser.specs.Elements.{as_elements, unknown, Learns};
 ghost use Rattle.notebook_meaning.specs.Fails.{AreElements};
 
 use crate::sliders::slider_in;
-use crate::whole_line::whole_line;
+use crate::whole_lines::whole_line;
 use py_value::Memory;
 use std::alloc::Global;
 use std::collections::BTreeSet;

@@ -1,7 +1,7 @@
 // Laws of files and of refusals, proved from the definitions.
 ghost use Rattle.std.specs.Prelude.{◌≡◌, ℕ, IsTrue, List};
 ghost use Rattle.notebook_meaning.specs.Fails.{IsFormless, FailsAt};
-ghost use Rattle.notebook_meaning.specs.Once.{IsAccepted, Refusal, FailsFirst};
+ghost use Rattle.notebook_meaning.specs.Program.{IsAccepted, Refusal, FailsFirst};
 ghost use Rattle.notebook_meaning.specs.Thin.{Elements, IsForm, is_line, are_thin, line_text, file_lines, text_of};
 ghost use Rattle.py_tree.specs.Trees.{Head, Cell};
 

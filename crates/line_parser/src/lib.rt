@@ -12,9 +12,10 @@ mod sliders;
 mod sums;
 mod thin_file;
 mod trees;
-mod whole_line;
+mod whole_lines;
 mod words;
 
 pub use names::is_name;
 pub use numbers::number;
-pub use thin_file::{ThinFault, thin};
+pub use thin_file::{BYTE_LIMIT, ThinFault, thin};
+pub use whole_lines::whole_line;

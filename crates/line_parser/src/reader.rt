@@ -12,7 +12,7 @@ ghost use Rattle.py_tree.specs.View.{view_head, view_stmt};
 use crate::elements::Elements;
 use crate::line::{body_line, stands_alone};
 use crate::thin_file::ThinFault;
-use crate::whole_line::whole_line;
+use crate::whole_lines::whole_line;
 use py_tree::{Block, Line, Stmt};
 use py_value::Memory;
 use std::alloc::Global;

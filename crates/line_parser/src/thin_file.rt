@@ -12,9 +12,10 @@ use py_tree::CellCode;
 use py_value::Memory;
 use std::alloc::{AllocFailed, Global};
 
-// The greatest number of bytes that a file may have, and of body lines.
-const BYTES: usize = 1_048_576;
+/// The greatest number of bytes that a file may have: a notebook's, and a script's.
+pub const BYTE_LIMIT: usize = 1_048_576;
 
+// The greatest number of body lines.
 const BODY_LINES: u32 = 1000;
 
 /// Why bytes are no file of the thin form.
@@ -55,7 +56,7 @@ pub fn thin(alloc: Global, bytes: &[u8]) -> Result<Vec<CellCode>, ThinFault>
     ensures only { (nb : List Cell) → IsForm bytes.now nb → IfOk result (λ cells. view_cells cells.items ≡ nb) }
     ensures refused { IfErr result (λ e. IsCauseOf e bytes.now) }
 {
-    if bytes.len() > BYTES {
+    if bytes.len() > BYTE_LIMIT {
         return Err(ThinFault::Thin { line: 0 });
     }
     let elements = Elements::of(alloc, bytes)?;

@@ -1,5 +1,5 @@
 // A place that is written to.
-ghost use Rattle.std.specs.Prelude.{◌≡◌, ℕ, ◌<◌, ◌≤◌, List, [], length, take, Option, IfOk, OnErr};
+ghost use Rattle.std.specs.Prelude.{ℕ, ◌<◌, ◌≤◌, List, [], length, take, Option, IfOk, OnErr};
 ghost use Rattle.link_io.specs.Outside.{Rose, Took};
 
 use crate::files::Failed;

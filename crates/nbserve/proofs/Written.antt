@@ -1,127 +1,257 @@
--- What was written at each status.
-use Rattle.std.proofs.Common.{◌≡◌, ◌∙◌, refl, sym, ap, subst, inl, inr, ◌⊎◌, ⊎_elim, ℕ, ◌≤◌, List, [], lit≤, arith}
+-- What was written at each status, and what it tells.
+use Rattle.std.proofs.Common.{◌≡◌, ◌∙◌, refl, sym, ap, subst, inl, inr, ◌⊎◌, ⊎_elim, ℕ, ◌+◌, ◌≤◌, List, [], ◌∷◌, ◌++◌, append-nil, arith}
 use Rattle.std.specs.Prelude.{Option, Some, None, IfSome}
+use Rattle.std.proofs.lemmas.Option.{same_Some}
 use Rattle.link_io.specs.Outside.{Took}
 use Rattle.line_parser.proofs.OneRefusal.{none_refused}
-use Rattle.link_io.proofs.Taken.{took_none}
-use Rattle.notebook_meaning.specs.Once as once
-use Rattle.notebook_meaning.specs.Once.{Comes, Begins, Once, command_of, AreRead, IsAccepted, IsRefused, Refusal, FailsFirst, read_of, once_text, refusal_text}
+use Rattle.line_parser.proofs.OneToOne.{same_form}
+use Rattle.notebook_meaning.specs.Answer.{Before, Message, Open, cost_of_parts, parts_from, work}
+use Rattle.notebook_meaning.specs.Program as program
+use Rattle.notebook_meaning.specs.Program.{Comes, Command, Once, Play, command_of, notebook_of, AreRead, IsAccepted, IsLoaded, IsRefused, Refusal, FailsFirst, read_of, once_text, usual_budget}
+use Rattle.notebook_meaning.specs.Scripts.{Script, IsScript, IsNoScript, FaultAt, messages_of, script_text}
 use Rattle.py_tree.specs.Trees.{Cell}
-use Rattle.nbserve.specs.Unopened.{IsOpening}
+use Rattle.notebook_meaning.proofs.ScriptTexts as scripts_read
+use Rattle.nbserve.specs.Carried as carried
+use Rattle.nbserve.specs.Carried.{Carried}
+use Rattle.nbserve.specs.Cut.{IsCutOff}
+use Rattle.nbserve.specs.Stops.{IsStopped, status_of, stop_line}
+use Rattle.nbserve.specs.Works as works
+use Rattle.nbserve.specs.Works.{Works, label_of, last_of}
 use Rattle.nbserve.specs.Wrote as wrote
-use Rattle.nbserve.specs.Wrote.{Wrote, Ended, Refuses}
+use Rattle.nbserve.specs.Wrote.{Wrote, Ended}
+use Rattle.nbserve.specs.declared.stop.Stop.{Stop}
+use Rattle.nbserve.specs.declared.stop.Stop.TheVariants as stop
 
--- the text that the run comes to was written, or a beginning of it
-pub ended_wrote : (holds : List ℕ → Option (Option (List ℕ))) (unread unwritten : Type 0) (words : List (List ℕ)) (status : ℕ) (text : List ℕ) (result : ℕ) (before now : Option (List ℕ)) → Comes holds unread words status text → Ended status text result before now unwritten → Wrote holds unread unwritten words result before now
-ended_wrote holds unread unwritten words status text result before now comes (wrote.whole e took) =
-    wrote.whole text (subst (λ s. Comes holds unread words s text) (sym e) comes) took
-ended_wrote holds unread unwritten words status text result before now comes (wrote.cut e why part) =
-    wrote.cut part.0 e why (once.beginning status text part.1 comes part.2) part.3
+-- ---- where the run is stopped
 
--- memory was wanting, and nothing was written
-pub nothing_wrote : (holds : List ℕ → Option (Option (List ℕ))) (unread unwritten : Type 0) (words : List (List ℕ)) (result : ℕ) (before now : Option (List ℕ)) → result ≡ 5 → now ≡ before → Wrote holds unread unwritten words result before now
-nothing_wrote holds unread unwritten words result before now e same =
-    wrote.unfinished [] e (once.nothing refl) (subst (λ o. Took before o []) (sym same) (took_none before))
-
-pub refused_wrote : (holds : List ℕ → Option (Option (List ℕ))) (unread unwritten : Type 0) (words : List (List ℕ)) (why : Refusal) (result : ℕ) (before now : Option (List ℕ)) → Comes holds unread words 1 (refusal_text why) → Refuses why result before now unwritten → Wrote holds unread unwritten words result before now
-refused_wrote holds unread unwritten words why result before now comes (wrote.written ended) = ended_wrote holds unread unwritten words 1 (refusal_text why) result before now comes ended
-refused_wrote holds unread unwritten words why result before now comes (wrote.nothing e same) = nothing_wrote holds unread unwritten words result before now e same
-
--- the opening's text is what the run comes to
-pub comes_opened : (holds : List ℕ → Option (Option (List ℕ))) (unread : Type 0) (words : List (List ℕ)) (file bytes text : List ℕ) → command_of words ≡ Some (Once file) → AreRead holds file bytes → IsOpening bytes text → Comes holds unread words 0 text
-comes_opened holds unread words file bytes text asked read opening = once.opened file bytes opening.0 asked read opening.1 refl opening.2
-
-pub comes_refused : (holds : List ℕ → Option (Option (List ℕ))) (unread : Type 0) (words : List (List ℕ)) (file bytes : List ℕ) (why : Refusal) → command_of words ≡ Some (Once file) → AreRead holds file bytes → FailsFirst bytes why → Comes holds unread words 1 (refusal_text why)
-comes_refused holds unread words file bytes why asked read cause = once.refused file bytes why asked read cause refl refl
-
--- the statuses
-comes_range : (holds : List ℕ → Option (Option (List ℕ))) (unread : Type 0) (words : List (List ℕ)) (status : ℕ) (text : List ℕ) → Comes holds unread words status text → status ≤ 3
-comes_range holds unread words status text (once.opened file bytes nb a r acc e t) = subst (λ n. n ≤ 3) (sym e) (lit≤ tt)
-comes_range holds unread words status text (once.refused file bytes why a r first e t) = subst (λ n. n ≤ 3) (sym e) (lit≤ tt)
-comes_range holds unread words status text (once.usage a e t) = subst (λ n. n ≤ 3) (sym e) (lit≤ tt)
-comes_range holds unread words status text (once.unread file a f e t) = subst (λ n. n ≤ 3) (sym e) (lit≤ tt)
+pub stopped_wrote : (holds : List ℕ → Option (Option (List ℕ))) (unread unwritten : Type 0) (words : List (List ℕ)) (why : Stop) (result : ℕ) (before now : Option (List ℕ)) → IsStopped holds unread words why → Ended (status_of why) (stop_line why) result before now unwritten → (why ≡ stop.Memory → (result ≡ 5) × Took before now []) → Wrote holds unread unwritten words result before now
+stopped_wrote holds unread unwritten words why result before now (inl memory) ended wanting = let none = wanting memory in wrote.wanting none.0 none.1
+stopped_wrote holds unread unwritten words why result before now (inr comes) ended wanting = wrote.ended (status_of why) (stop_line why) comes ended
 
 -- where a text of another status was written, the answer isn't 0
-pub not_done : (status : ℕ) (text : List ℕ) (result : ℕ) (before now : Option (List ℕ)) (unwritten : Type 0) → (status ≡ 0 → ⊥) → Ended status text result before now unwritten → result ≡ 0 → ⊥
+not_done : (status : ℕ) (text : List ℕ) (result : ℕ) (before now : Option (List ℕ)) (unwritten : Type 0) → (status ≡ 0 → ⊥) → Ended status text result before now unwritten → result ≡ 0 → ⊥
 not_done status text result before now unwritten other (wrote.whole e took) zero = other (sym e ∙ zero)
 not_done status text result before now unwritten other (wrote.cut e why part) zero = omega (arith, e, zero)
+not_done status text result before now unwritten other (wrote.unfinished e part) zero = omega (arith, e, zero)
 
-pub not_refused : (why : Refusal) (result : ℕ) (before now : Option (List ℕ)) (unwritten : Type 0) → Refuses why result before now unwritten → result ≡ 0 → ⊥
-not_refused why result before now unwritten (wrote.written ended) zero = not_done 1 (refusal_text why) result before now unwritten (λ e. omega (arith, e)) ended zero
-not_refused why result before now unwritten (wrote.nothing e same) zero = omega (arith, e, zero)
+no_stop_is_done : (why : Stop) → status_of why ≡ 0 → ⊥
+no_stop_is_done stop.Usage e = omega arith
+no_stop_is_done stop.Unread e = omega arith
+no_stop_is_done (stop.Refused why) e = omega arith
+no_stop_is_done (stop.NoScript line) e = omega arith
+no_stop_is_done stop.Memory e = omega arith
 
-pub same_name : (f file : List ℕ) → Some (Once f) ≡ Some (Once file) → f ≡ file
-same_name f file e = cc
+pub stopped_not_done : (why : Stop) (result : ℕ) (before now : Option (List ℕ)) (unwritten : Type 0) → Ended (status_of why) (stop_line why) result before now unwritten → result ≡ 0 → ⊥
+stopped_not_done why result before now unwritten = not_done (status_of why) (stop_line why) result before now unwritten (no_stop_is_done why)
+
+-- ---- bytes of files that are told
 
 same_bytes : (t : Option (List ℕ)) (all other : List ℕ) → t ≡ Some all → t ≡ Some other → all ≡ other
 same_bytes t all other h k = cc
 
-pub told_read : (o : Option (Option (List ℕ))) (all bytes : List ℕ) → o ≡ Some (Some all) → IfSome o (λ told. (rest : List ℕ) × (told ≡ Some rest) × (bytes ≡ read_of rest)) → bytes ≡ read_of all
+told_read : (o : Option (Option (List ℕ))) (all bytes : List ℕ) → o ≡ Some (Some all) → IfSome o (λ told. (rest : List ℕ) × (told ≡ Some rest) × (bytes ≡ read_of rest)) → bytes ≡ read_of all
 told_read o all bytes e r =
     let h : (rest : List ℕ) × (Some all ≡ Some rest) × (bytes ≡ read_of rest) = subst (λ p. IfSome p (λ told. (rest : List ℕ) × (told ≡ Some rest) × (bytes ≡ read_of rest))) e r in
     h.2 ∙ ap read_of (same_bytes (Some all) h.0 all h.1 refl)
 
--- what is read of a file that is told
-read_is_of : (holds : List ℕ → Option (Option (List ℕ))) (words : List (List ℕ)) (f file bytes all : List ℕ) → command_of words ≡ Some (Once f) → command_of words ≡ Some (Once file) → holds file ≡ Some (Some all) → AreRead holds f bytes → bytes ≡ read_of all
-read_is_of holds words f file bytes all a asked told r =
-    told_read (holds file) all bytes told (subst (λ n. AreRead holds n bytes) (same_name f file (sym a ∙ asked)) r)
+read_is : (holds : List ℕ → Option (Option (List ℕ))) (f file bytes all : List ℕ) → f ≡ file → holds file ≡ Some (Some all) → AreRead holds f bytes → bytes ≡ read_of all
+read_is holds f file bytes all same told r = told_read (holds file) all bytes told (subst (λ n. AreRead holds n bytes) same r)
 
-module _ (holds : List ℕ → Option (Option (List ℕ))) (unread unwritten : Type 0) (words : List (List ℕ)) (status : ℕ) (before now : Option (List ℕ)) where
-  pub wrote_range : Wrote holds unread unwritten words status before now → status ≤ 5
-  wrote_range (wrote.whole text comes took) = omega (arith, comes_range holds unread words status text comes)
-  wrote_range (wrote.cut text e why begins took) = omega (arith, e)
-  wrote_range (wrote.unfinished text e begins took) = omega (arith, e)
+loaded_is : (holds : List ℕ → Option (Option (List ℕ))) (f file all : List ℕ) (nb : List Cell) → f ≡ file → holds file ≡ Some (Some all) → IsLoaded holds f nb → IsAccepted (read_of all) nb
+loaded_is holds f file all nb same told l = subst (λ bytes. IsAccepted bytes nb) (read_is holds f file l.0 all same told l.1) l.2
+
+none_asked : (words : List (List ℕ)) (a : Command) → command_of words ≡ None → command_of words ≡ Some a → ⊥
+none_asked words a h k = let no : None ≡ Some a = sym h ∙ k in cc
+
+once_or_play : (words : List (List ℕ)) (f file script : List ℕ) → command_of words ≡ Some (Once f) → command_of words ≡ Some (Play file script) → ⊥
+once_or_play words f file script h k = let no = same_Some (Once f) (Play file script) (sym h ∙ k) in cc
+
+same_once : (words : List (List ℕ)) (f file : List ℕ) → command_of words ≡ Some (Once f) → command_of words ≡ Some (Once file) → f ≡ file
+same_once words f file h k = let same = same_Some (Once f) (Once file) (sym h ∙ k) in cc
+
+same_play : (words : List (List ℕ)) (f file s script : List ℕ) → command_of words ≡ Some (Play f s) → command_of words ≡ Some (Play file script) → (f ≡ file) × (s ≡ script)
+same_play words f file s script h k = let same = same_Some (Play f s) (Play file script) (sym h ∙ k) in (cc, cc)
+
+same_notebook : (words : List (List ℕ)) (a b : Command) → command_of words ≡ Some a → command_of words ≡ Some b → notebook_of a ≡ notebook_of b
+same_notebook words a b h k = ap notebook_of (same_Some a b (sym h ∙ k))
+
+-- an accepted notebook isn't refused
+not_refused : (holds : List ℕ → Option (Option (List ℕ))) (words : List (List ℕ)) (a b : Command) (bytes all : List ℕ) (nb : List Cell) (why : Refusal) → command_of words ≡ Some a → command_of words ≡ Some b → holds (notebook_of b) ≡ Some (Some all) → AreRead holds (notebook_of a) bytes → IsAccepted (read_of all) nb → FailsFirst bytes why → ⊥
+not_refused holds words a b bytes all nb why h k told r ok first =
+    none_refused bytes nb why
+    (subst (λ bs. IsAccepted bs nb) (sym (read_is holds (notebook_of a) (notebook_of b) bytes all (same_notebook words a b h k) told r)) ok) first
+
+-- ---- a command that was carried out
+
+done_or_cut : {text : List ℕ} {status : ℕ} {before now : Option (List ℕ)} {unwritten : Type 0} → Ended 0 text status before now unwritten → (status ≡ 1) ⊎ (status ≡ 2) ⊎ (status ≡ 3) ⊎ (status ≡ 6) → ⊥
+done_or_cut (wrote.whole e took) stopped = grind (arith, e, stopped)
+done_or_cut (wrote.cut e why part) stopped = grind (arith, e, stopped)
+done_or_cut (wrote.unfinished e part) stopped = grind (arith, e, stopped)
+
+-- the notebook that was loaded, and the messages that were played, are those of the words
+opened_parts : (holds : List ℕ → Option (Option (List ℕ))) (words : List (List ℕ)) (f : List ℕ) (n nb : List Cell) (ms : List Message) → command_of words ≡ Some (Once f) → IsLoaded holds f n → Works holds words nb ms → parts_from n usual_budget Before (Open ∷ []) ≡ parts_from nb usual_budget Before ms
+opened_parts holds words f n nb ms a l (works.once file all asked told ok sent) =
+    let same = same_form (read_of all) n nb (loaded_is holds f file all n (same_once words f file a asked) told l).form ok.form in
+    ap (λ cells. parts_from cells usual_budget Before (Open ∷ [])) same ∙ ap (parts_from nb usual_budget Before) (sym sent)
+opened_parts holds words f n nb ms a l (works.play file script all text said asked told ok shown is sent) = absurd (once_or_play words f file script a asked)
+
+played_parts : (holds : List ℕ → Option (Option (List ℕ))) (words : List (List ℕ)) (f s bytes : List ℕ) (n : List Cell) (script : Script) (nb : List Cell) (ms : List Message) → command_of words ≡ Some (Play f s) → IsLoaded holds f n → AreRead holds s bytes → IsScript bytes script → Works holds words nb ms → parts_from n usual_budget Before (messages_of script) ≡ parts_from nb usual_budget Before ms
+played_parts holds words f s bytes n played nb ms a l r i (works.once file all asked told ok sent) = absurd (once_or_play words file f s asked a)
+played_parts holds words f s bytes n played nb ms a l r i (works.play file script all text said asked told ok shown is sent) =
+    let names = same_play words f file s script a asked in
+    let same = same_form (read_of all) n nb (loaded_is holds f file all n names.0 told l).form ok.form in
+    let one = scripts_read.one (read_of text) played said (subst (λ b. IsScript b played) (read_is holds s script bytes text names.1 shown r) i) is in
+    ap (λ cells. parts_from cells usual_budget Before (messages_of played)) same
+    ∙ ap (λ script. parts_from nb usual_budget Before (messages_of script)) one ∙ ap (parts_from nb usual_budget Before) (sym sent)
+
+module _ {holds : List ℕ → Option (Option (List ℕ))} {words : List (List ℕ)} {status : ℕ} {before now : Option (List ℕ)} {unwritten : Type 0} {count count_after : ℕ} where
+  pub carried_wrote : (unread : Type 0) → Carried holds words status before now unwritten count count_after → Wrote holds unread unwritten words status before now
+  carried_wrote unread (carried.opened file nb asked loaded done) = wrote.ended 0 (once_text nb ++ []) (program.opened file nb asked loaded refl (append-nil (once_text nb))) done.ended
+  carried_wrote unread (carried.played file script nb asked loaded p) =
+      wrote.ended 0 (script_text nb usual_budget p.said) (program.played file script p.bytes nb p.said asked loaded p.read p.is refl refl) p.done.ended
+
+  -- no test stopped it
+  pub carried_done : Carried holds words status before now unwritten count count_after → (status ≡ 1) ⊎ (status ≡ 2) ⊎ (status ≡ 3) ⊎ (status ≡ 6) → ⊥
+  carried_done (carried.opened file nb asked loaded done) = done_or_cut done.ended
+  carried_done (carried.played file script nb asked loaded p) = done_or_cut p.done.ended
+
+  -- the steps of its messages are counted
+  pub carried_steps : Carried holds words status before now unwritten count count_after → status ≡ 0 → (nb : List Cell) (ms : List Message) → Works holds words nb ms → count_after ≡ count + work nb usual_budget ms
+  carried_steps (carried.opened f n a l done) zero nb ms can = done.steps zero ∙ ap (λ parts. count + cost_of_parts parts) (opened_parts holds words f n nb ms a l can)
+  carried_steps (carried.played f s n a l p) zero nb ms can =
+      p.done.steps zero ∙ ap (λ parts. count + cost_of_parts parts) (played_parts holds words f s p.bytes n p.said nb ms a l p.read p.is can)
+
+  -- its text is cut where a write failed
+  pub carried_cut : Carried holds words status before now unwritten count count_after → status ≡ 4 → (asked : Command) (nb : List Cell) (ms : List Message) → command_of words ≡ Some asked → Works holds words nb ms → IsCutOff (label_of asked) (last_of asked) (parts_from nb usual_budget Before ms) before now count count_after
+  carried_cut (carried.opened f n a l done) four asked nb ms h can =
+      subst (λ command. IsCutOff (label_of command) (last_of command) (parts_from nb usual_budget Before ms) before now count count_after) (same_Some (Once f) asked (sym a ∙ h))
+      (subst (λ parts. IsCutOff [] [] parts before now count count_after) (opened_parts holds words f n nb ms a l can) (done.cut four))
+  carried_cut (carried.played f s n a l p) four asked nb ms h can =
+      subst (λ command. IsCutOff (label_of command) (last_of command) (parts_from nb usual_budget Before ms) before now count count_after) (same_Some (Play f s) asked (sym a ∙ h))
+      (subst (λ parts. IsCutOff (label_of (Play f s)) (last_of (Play f s)) parts before now count count_after)
+      (played_parts holds words f s p.bytes n p.said nb ms a l p.read p.is can) (p.done.cut four))
+
+-- ---- what a run comes to
+
+module _ (holds : List ℕ → Option (Option (List ℕ))) (unread : Type 0) (words : List (List ℕ)) (status : ℕ) (text : List ℕ) where
+  comes_range : Comes holds unread words status text → (status ≤ 6) × (status ≡ 4 → ⊥)
+  comes_range (program.opened file nb a l e t) = (omega (arith, e), λ h. omega (arith, e, h))
+  comes_range (program.played file script bytes nb said a l r is e t) = (omega (arith, e), λ h. omega (arith, e, h))
+  comes_range (program.refused command bytes why a r first e t) = (omega (arith, e), λ h. omega (arith, e, h))
+  comes_range (program.usage a e t) = (omega (arith, e), λ h. omega (arith, e, h))
+  comes_range (program.unread command a f e t) = (omega (arith, e), λ h. omega (arith, e, h))
+  comes_range (program.no_script file script bytes nb line a l r stops e t) = (omega (arith, e), λ h. omega (arith, e, h))
 
   -- a read fault has its cause
-  pub wrote_read : Wrote holds unread unwritten words status before now → status ≡ 3 → unread
-  wrote_read (wrote.whole text (once.opened file bytes nb a r acc e t) took) h = absurd (omega (arith, e, h))
-  wrote_read (wrote.whole text (once.refused file bytes why a r first e t) took) h = absurd (omega (arith, e, h))
-  wrote_read (wrote.whole text (once.usage a e t) took) h = absurd (omega (arith, e, h))
-  wrote_read (wrote.whole text (once.unread file a f e t) took) h = f
-  wrote_read (wrote.cut text e why begins took) h = absurd (omega (arith, e, h))
-  wrote_read (wrote.unfinished text e begins took) h = absurd (omega (arith, e, h))
-
-  -- so has a write fault
-  pub wrote_write : Wrote holds unread unwritten words status before now → status ≡ 4 → unwritten
-  wrote_write (wrote.whole text comes took) h = absurd (omega (arith, h, comes_range holds unread words status text comes))
-  wrote_write (wrote.cut text e why begins took) h = why
-  wrote_write (wrote.unfinished text e begins took) h = absurd (omega (arith, e, h))
+  comes_read : Comes holds unread words status text → status ≡ 3 → unread
+  comes_read (program.opened file nb a l e t) h = absurd (omega (arith, e, h))
+  comes_read (program.played file script bytes nb said a l r is e t) h = absurd (omega (arith, e, h))
+  comes_read (program.refused command bytes why a r first e t) h = absurd (omega (arith, e, h))
+  comes_read (program.usage a e t) h = absurd (omega (arith, e, h))
+  comes_read (program.unread command a f e t) h = f
+  comes_read (program.no_script file script bytes nb line a l r stops e t) h = absurd (omega (arith, e, h))
 
   -- words that are no form
-  pub wrote_usage : Wrote holds unread unwritten words status before now → command_of words ≡ None → (status ≡ 2) ⊎ (status ≡ 4) ⊎ (status ≡ 5)
-  wrote_usage (wrote.whole text (once.opened file bytes nb a r acc e t) took) h = let no : None ≡ Some (Once file) = sym h ∙ a in absurd cc
-  wrote_usage (wrote.whole text (once.refused file bytes why a r first e t) took) h = let none : None ≡ Some (Once file) = sym h ∙ a in absurd cc
-  wrote_usage (wrote.whole text (once.usage a e t) took) h = inl e
-  wrote_usage (wrote.whole text (once.unread file a f e t) took) h = let no : None ≡ Some (Once file) = sym h ∙ a in absurd cc
-  wrote_usage (wrote.cut text e why begins took) h = inr (inl e)
-  wrote_usage (wrote.unfinished text e begins took) h = inr (inr e)
+  comes_usage : Comes holds unread words status text → command_of words ≡ None → status ≡ 2
+  comes_usage (program.opened file nb a l e t) h = absurd (none_asked words (Once file) h a)
+  comes_usage (program.played file script bytes nb said a l r is e t) h = absurd (none_asked words (Play file script) h a)
+  comes_usage (program.refused command bytes why a r first e t) h = absurd (none_asked words command h a)
+  comes_usage (program.usage a e t) h = e
+  comes_usage (program.unread command a f e t) h = absurd (none_asked words command h a)
+  comes_usage (program.no_script file script bytes nb line a l r stops e t) h = absurd (none_asked words (Play file script) h a)
 
-  -- accepted bytes, where the files tell them
-  pub wrote_accepted : Wrote holds unread unwritten words status before now → (file all : List ℕ) (nb : List Cell) → command_of words ≡ Some (Once file) → holds file ≡ Some (Some all) → IsAccepted (read_of all) nb → (status ≡ 0) ⊎ (status ≡ 3) ⊎ (status ≡ 4) ⊎ (status ≡ 5)
-  wrote_accepted (wrote.whole text (once.opened f bytes n a r acc e t) took) file all nb asked told ok = inl e
-  wrote_accepted (wrote.whole text (once.refused f bytes why a r first e t) took) file all nb asked told ok =
-      absurd (none_refused bytes nb why (subst (λ bs. IsAccepted bs nb) (sym (read_is_of holds words f file bytes all a asked told r)) ok) first)
-  wrote_accepted (wrote.whole text (once.usage a e t) took) file all nb asked told ok = let no : None ≡ Some (Once file) = sym a ∙ asked in absurd cc
-  wrote_accepted (wrote.whole text (once.unread f a why e t) took) file all nb asked told ok = inr (inl e)
-  wrote_accepted (wrote.cut text e why begins took) file all nb asked told ok = inr (inr (inl e))
-  wrote_accepted (wrote.unfinished text e begins took) file all nb asked told ok = inr (inr (inr e))
+  -- a command that can be carried out
+  comes_works : Comes holds unread words status text → (nb : List Cell) (ms : List Message) → Works holds words nb ms → (status ≡ 0) ⊎ (status ≡ 3)
+  comes_works (program.opened f n a l e t) nb ms can = inl e
+  comes_works (program.played f s bytes n said a l r is e t) nb ms can = inl e
+  comes_works (program.refused command bytes why a r first e t) nb ms (works.once file all asked told ok sent) =
+      absurd (not_refused holds words command (Once file) bytes all nb why a asked told r ok first)
+  comes_works (program.refused command bytes why a r first e t) nb ms (works.play file script all shown said asked told ok there is sent) =
+      absurd (not_refused holds words command (Play file script) bytes all nb why a asked told r ok first)
+  comes_works (program.usage a e t) nb ms (works.once file all asked told ok sent) = absurd (none_asked words (Once file) a asked)
+  comes_works (program.usage a e t) nb ms (works.play file script all shown said asked told ok there is sent) =
+      absurd (none_asked words (Play file script) a asked)
+  comes_works (program.unread command a f e t) nb ms can = inr e
+  comes_works (program.no_script f s bytes n line a l r stops e t) nb ms (works.once file all asked told ok sent) = absurd (once_or_play words file f s asked a)
+  comes_works (program.no_script f s bytes n line a l r stops e t) nb ms (works.play file script all shown said asked told ok there is sent) =
+      let same = read_is holds s script bytes shown (same_play words f file s script a asked).1 there r in
+      absurd (scripts_read.scripts_go_on (read_of shown) said is line (subst (λ bs. FaultAt bs line) same stops))
 
   -- refused bytes, where the files tell them
-  pub wrote_refused : Wrote holds unread unwritten words status before now → (file all : List ℕ) → command_of words ≡ Some (Once file) → holds file ≡ Some (Some all) → IsRefused (read_of all) → (status ≡ 1) ⊎ (status ≡ 3) ⊎ (status ≡ 4) ⊎ (status ≡ 5)
-  wrote_refused (wrote.whole text (once.opened f bytes nb a r acc e t) took) file all asked told never =
-      absurd (never nb (subst (λ bs. IsAccepted bs nb) (read_is_of holds words f file bytes all a asked told r) acc))
-  wrote_refused (wrote.whole text (once.refused f bytes why a r first e t) took) file all asked told never = inl e
-  wrote_refused (wrote.whole text (once.usage a e t) took) file all asked told never = let bad : None ≡ Some (Once file) = sym a ∙ asked in absurd cc
-  wrote_refused (wrote.whole text (once.unread f a why e t) took) file all asked told never = inr (inl e)
-  wrote_refused (wrote.cut text e why begins took) file all asked told never = inr (inr (inl e))
-  wrote_refused (wrote.unfinished text e begins took) file all asked told never = inr (inr (inr e))
+  comes_refused : Comes holds unread words status text → (asked : Command) (all : List ℕ) → command_of words ≡ Some asked → holds (notebook_of asked) ≡ Some (Some all) → IsRefused (read_of all) → (status ≡ 1) ⊎ (status ≡ 3)
+  comes_refused (program.opened f n a l e t) command all asked told never = absurd (never n (loaded_is holds f (notebook_of command) all n (same_notebook words (Once f) command a asked) told l))
+  comes_refused (program.played f s bytes n said a l r is e t) command all asked told never = absurd (never n (loaded_is holds f (notebook_of command) all n (same_notebook words (Play f s) command a asked) told l))
+  comes_refused (program.refused other bytes why a r first e t) command all asked told never = inl e
+  comes_refused (program.usage a e t) command all asked told never = absurd (none_asked words command a asked)
+  comes_refused (program.unread other a f e t) command all asked told never = inr e
+  comes_refused (program.no_script f s bytes n line a l r stops e t) command all asked told never = absurd (never n (loaded_is holds f (notebook_of command) all n (same_notebook words (Play f s) command a asked) told l))
 
-  -- accepted bytes, where no fault came
-  pub wrote_complete : Wrote holds unread unwritten words status before now → (file all : List ℕ) (nb : List Cell) → command_of words ≡ Some (Once file) → holds file ≡ Some (Some all) → IsAccepted (read_of all) nb → (unread → ⊥) → (unwritten → ⊥) → (status ≡ 0) ⊎ (status ≡ 5)
-  wrote_complete w file all nb asked told ok read write = ⊎_elim
-      (λ done. inl done)
-      (λ more. ⊎_elim
-      (λ fault. absurd (read (wrote_read w fault)))
-      (λ rest. ⊎_elim (λ fault. absurd (write (wrote_write w fault))) (λ memory. inr memory) rest)
-      more)
-      (wrote_accepted w file all nb asked told ok)
+  -- bytes that are no script
+  comes_no_script : Comes holds unread words status text → (file script all shown : List ℕ) (nb : List Cell) → command_of words ≡ Some (Play file script) → holds file ≡ Some (Some all) → IsAccepted (read_of all) nb → holds script ≡ Some (Some shown) → IsNoScript (read_of shown) → (status ≡ 6) ⊎ (status ≡ 3)
+  comes_no_script (program.opened f n a l e t) file script all shown nb asked told ok there never = absurd (once_or_play words f file script a asked)
+  comes_no_script (program.played f s bytes n said a l r is e t) file script all shown nb asked told ok there never =
+      absurd (never said (subst (λ bs. IsScript bs said) (read_is holds s script bytes shown (same_play words f file s script a asked).1 there r) is))
+  comes_no_script (program.refused command bytes why a r first e t) file script all shown nb asked told ok there never = absurd (not_refused holds words command (Play file script) bytes all nb why a asked told r ok first)
+  comes_no_script (program.usage a e t) file script all shown nb asked told ok there never = absurd (none_asked words (Play file script) a asked)
+  comes_no_script (program.unread command a f e t) file script all shown nb asked told ok there never = inr e
+  comes_no_script (program.no_script f s bytes n line a l r stops e t) file script all shown nb asked told ok there never = inl e
+
+-- where a command that can be carried out is stopped and no read failed, memory is wanting, and no write failed
+pub stopped_not_cut : (holds : List ℕ → Option (Option (List ℕ))) (unread : Type 0) (words : List (List ℕ)) (why : Stop) (result : ℕ) → IsStopped holds unread words why → (why ≡ stop.Memory → result ≡ 5) → result ≡ 4 → (nb : List Cell) (ms : List Message) → Works holds words nb ms → (unread → ⊥) → ⊥
+stopped_not_cut holds unread words why result (inl memory) wanting four nb ms can read = let five = wanting memory in omega (arith, four, five)
+stopped_not_cut holds unread words why result (inr comes) wanting four nb ms can read =
+    ⊎_elim (no_stop_is_done why) (λ three. read (comes_read holds unread words (status_of why) (stop_line why) comes three))
+    (comes_works holds unread words (status_of why) (stop_line why) comes nb ms can)
+
+-- ---- what was written tells of the status
+
+module _ (holds : List ℕ → Option (Option (List ℕ))) (unread unwritten : Type 0) (words : List (List ℕ)) (status : ℕ) (before now : Option (List ℕ)) where
+  -- the status is one that the run comes to, or a write failed, or memory was wanting
+  come_to : (P : ℕ → Type 0) → ((come : ℕ) (text : List ℕ) → Comes holds unread words come text → P come) → Wrote holds unread unwritten words status before now → P status ⊎ ((status ≡ 4) × unwritten) ⊎ (status ≡ 5)
+  come_to P each (wrote.ended come text comes (wrote.whole e took)) = inl (subst P (sym e) (each come text comes))
+  come_to P each (wrote.ended come text comes (wrote.cut e why part)) = inr (inl (e, why))
+  come_to P each (wrote.ended come text comes (wrote.unfinished e part)) = inr (inr e)
+  come_to P each (wrote.wanting e took) = inr (inr e)
+
+  -- one of two statuses, or a fault
+  come_to_one : (a : ℕ) → ((come : ℕ) (text : List ℕ) → Comes holds unread words come text → (come ≡ a) ⊎ (come ≡ 3)) → Wrote holds unread unwritten words status before now → (status ≡ a) ⊎ (status ≡ 3) ⊎ (status ≡ 4) ⊎ (status ≡ 5)
+  come_to_one a each w =
+      ⊎_elim (λ one. ⊎_elim (λ is. inl is) (λ read. inr (inl read)) one) (λ fault. ⊎_elim (λ write. inr (inr (inl write.0))) (λ memory. inr (inr (inr memory))) fault)
+      (come_to (λ come. (come ≡ a) ⊎ (come ≡ 3)) each w)
+
+  pub wrote_range : Wrote holds unread unwritten words status before now → status ≤ 6
+  wrote_range w =
+      ⊎_elim (λ is. is) (λ fault. ⊎_elim (λ write. let four = write.0 in omega (arith, four)) (λ memory. omega (arith, memory)) fault)
+      (come_to (λ come. come ≤ 6) (λ come text comes. (comes_range holds unread words come text comes).0) w)
+
+  -- a read fault has its cause, and so has a write fault
+  pub wrote_read : Wrote holds unread unwritten words status before now → status ≡ 3 → unread
+  wrote_read w h =
+      ⊎_elim (λ cause. cause h) (λ fault. ⊎_elim (λ write. let four = write.0 in absurd (omega (arith, four, h))) (λ memory. absurd (omega (arith, memory, h))) fault)
+      (come_to (λ come. come ≡ 3 → unread) (comes_read holds unread words) w)
+
+  pub wrote_write : Wrote holds unread unwritten words status before now → status ≡ 4 → unwritten
+  wrote_write w h =
+      ⊎_elim (λ other. absurd (other h)) (λ fault. ⊎_elim (λ write. write.1) (λ memory. absurd (omega (arith, memory, h))) fault)
+      (come_to (λ come. come ≡ 4 → ⊥) (λ come text comes. (comes_range holds unread words come text comes).1) w)
+
+  pub wrote_usage : Wrote holds unread unwritten words status before now → command_of words ≡ None → (status ≡ 2) ⊎ (status ≡ 4) ⊎ (status ≡ 5)
+  wrote_usage w h =
+      ⊎_elim (λ is. inl is) (λ fault. ⊎_elim (λ write. inr (inl write.0)) (λ memory. inr (inr memory)) fault)
+      (come_to (λ come. come ≡ 2) (λ come text comes. comes_usage holds unread words come text comes h) w)
+
+  pub wrote_accepted : Wrote holds unread unwritten words status before now → (nb : List Cell) (ms : List Message) → Works holds words nb ms → (status ≡ 0) ⊎ (status ≡ 3) ⊎ (status ≡ 4) ⊎ (status ≡ 5)
+  wrote_accepted w nb ms can = come_to_one 0 (λ come text comes. comes_works holds unread words come text comes nb ms can) w
+
+  pub wrote_refused : Wrote holds unread unwritten words status before now → (asked : Command) (all : List ℕ) → command_of words ≡ Some asked → holds (notebook_of asked) ≡ Some (Some all) → IsRefused (read_of all) → (status ≡ 1) ⊎ (status ≡ 3) ⊎ (status ≡ 4) ⊎ (status ≡ 5)
+  wrote_refused w command all asked told never = come_to_one 1 (λ come text comes. comes_refused holds unread words come text comes command all asked told never) w
+
+  pub wrote_no_script : Wrote holds unread unwritten words status before now → (file script all shown : List ℕ) (nb : List Cell) → command_of words ≡ Some (Play file script) → holds file ≡ Some (Some all) → IsAccepted (read_of all) nb → holds script ≡ Some (Some shown) → IsNoScript (read_of shown) → (status ≡ 6) ⊎ (status ≡ 3) ⊎ (status ≡ 4) ⊎ (status ≡ 5)
+  wrote_no_script w file script all shown nb asked told ok there never =
+      come_to_one 6 (λ come text comes. comes_no_script holds unread words come text comes file script all shown nb asked told ok there never) w
+
+  -- where no fault came, a command that can be carried out is, or memory is wanting
+  pub wrote_complete : Wrote holds unread unwritten words status before now → (nb : List Cell) (ms : List Message) → Works holds words nb ms → (unread → ⊥) → (unwritten → ⊥) → (status ≡ 0) ⊎ (status ≡ 5)
+  wrote_complete w nb ms can read write =
+      ⊎_elim (λ done. inl done) (λ fault. ⊎_elim (λ three. absurd (read (wrote_read w three))) (λ other. ⊎_elim (λ four. absurd (write (wrote_write w four))) (λ memory. inr memory) other) fault)
+      (wrote_accepted w nb ms can)

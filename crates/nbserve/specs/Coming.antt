@@ -30,7 +30,7 @@ parts_of nb budget ui (coming.Refusal why) = at_no_cost why ∷ at_no_cost (fram
 parts_of nb budget ui (coming.Results cells taken) =
     flat_map (λ c. results_of nb budget ui (c ∷ [])) (drop taken (cells_of cells)) ++ at_no_cost (frame.Done (length (cells_of cells))) ∷ []
 
--- how many they are, one for each cell
+-- how many they are
 abbrev pub count_of : Coming → ℕ
 count_of coming.Nothing = 0
 count_of (coming.Refusal why) = 2

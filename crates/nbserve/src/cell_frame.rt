@@ -2,12 +2,12 @@
 ghost use Rattle.std.specs.Prelude.{◌≡◌, IfOk, option_and_then};
 ghost use Rattle.nbserve.specs.Ran.{error_after, frame_after};
 ghost use Rattle.notebook_meaning.specs.Whole as whole;
-ghost use Rattle.py_value.specs.Texts.{str_of, element_text};
+ghost use Rattle.py_value.specs.Texts.{str_of};
 ghost use Rattle.py_value.specs.View.{data_of};
 
 use notebook_meaning::{CellError, CellFrame, Output, OutputKind, Status};
 use py_eval::{End, Ran};
-use py_value::{Element, ErrorKind, Lines, Memory, Text, Value, write_element, write_str};
+use py_value::{ErrorKind, Lines, Memory, Text, Value, write_str};
 use std::alloc::Global;
 
 // The `str` of a value.
@@ -19,15 +19,6 @@ fn text_of(alloc: Global, value: &Value) -> Result<Text, Memory>
     Ok(text)
 }
 
-// The text of an element.
-fn text_of_element(alloc: Global, element: &Element) -> Result<Text, Memory>
-    ensures { IfOk result (λ text. text ≡ element_text element.now) }
-{
-    let mut text = Text::new(alloc);
-    write_element(alloc, element, &mut text)?;
-    Ok(text)
-}
-
 // What a value shows as the output of a cell; nothing where it is None.
 fn shown(alloc: Global, value: &Value) -> Result<Option<Output>, Memory>
     ensures { IfOk result (λ output. output ≡ whole.shown value.now) }
@@ -35,7 +26,7 @@ fn shown(alloc: Global, value: &Value) -> Result<Option<Output>, Memory>
     let (text, kind) = match value {
         Value::None => return Ok(None),
         Value::Int(number) => (Text::of(number.to_string(alloc)?), OutputKind::Plain),
-        Value::Element(element) => (text_of_element(alloc, element)?, OutputKind::Element),
+        Value::Element(element) => (ui_elements::shown(alloc, element)?, OutputKind::Element),
         Value::Html(html) => (html.copy(alloc)?, OutputKind::Html),
         _ => (text_of(alloc, value)?, OutputKind::Plain),
     };

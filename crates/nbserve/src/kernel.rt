@@ -96,12 +96,9 @@ impl<'n> Kernel<'n> {
             return Err(Memory);
         }
         self.spoiled = true;
-        let frame = self.state.next_frame(alloc, steps)?;
+        let stepped = self.state.next_frame(alloc, steps)?;
         self.spoiled = false;
-        match frame {
-            Some(frame) => Ok(Stepped::Frame(frame)),
-            None => Ok(Stepped::Idle),
-        }
+        Ok(stepped)
     }
 
     /// The newest frame of a cell; none where it has had no frame.
@@ -125,7 +122,8 @@ impl<'n> Kernel<'n> {
 
     /// How many frames are to come; none where memory was wanting.
     pub fn pending(&self) -> u32
-        ensures { self.now.spoiled ≡ false → result ≡ length self.now.coming }
+        ensures count { self.now.spoiled ≡ false → result ≡ length self.now.coming }
+        ensures spoiled { self.now.spoiled ≡ true → result ≡ 0 }
     {
         if self.spoiled {
             return 0;

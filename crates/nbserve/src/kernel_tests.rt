@@ -5,9 +5,8 @@ ghost use Rattle.py_tree.specs.View.{view_cells};
 
 use crate::answers::{Delivered, Stepped};
 use crate::kernel::{Kernel, open};
-use crate::opening::Unopened;
-use crate::replay::replay;
-use crate::texts::frames_text;
+use crate::stop::Stop;
+use crate::texts::set_line;
 use cell_graph::{Notebook, notebook};
 use line_parser::thin;
 use notebook_meaning::CellFrame;
@@ -50,7 +49,7 @@ enum Call<'a> {
 
 use Call::{Deliver, Newest, Pending, Present, Step};
 
-fn slider(alloc: Global) -> Result<Notebook, Unopened>
+fn slider(alloc: Global) -> Result<Notebook, Stop>
     ensures { IfOk result (λ nb. IsTrue (are_thin (view_cells nb))) }
 {
     Ok(notebook(alloc, thin(alloc, SLIDER)?)?)
@@ -97,7 +96,8 @@ fn push_step<L: Ledger>(
 ) -> Result<(), Memory> {
     match kernel.step(alloc, steps)? {
         Stepped::Frame(frame) => {
-            let line = frames_text(alloc, &[frame])?;
+            let mut line = Vec::new(alloc);
+            set_line(alloc, &mut line, b"", &frame)?;
             lines.extend_from_slice(line.as_slice())?;
         }
         Stepped::Idle => lines.extend_from_slice(b"idle\n")?,
@@ -129,13 +129,14 @@ fn push_call<L: Ledger>(
 
 fn calls_lines<L: Ledger>(
     alloc: Global,
+    notebook: &Notebook,
     calls: &[Call<'_>],
     blank: Blank,
-) -> Result<Vec<u8>, Unopened>
-    requires { (blank.name ≡ L.name) × (blank.parts ≡ L.parts) × (0 < blank.parts) }
+) -> Result<Vec<u8>, Memory>
+    requires thin { IsTrue (are_thin (view_cells notebook.now)) }
+    requires new { (blank.name ≡ L.name) × (blank.parts ≡ L.parts) × (0 < blank.parts) }
 {
-    let notebook = slider(alloc)?;
-    let mut kernel = open(alloc, &notebook, BUDGET)?;
+    let mut kernel = open(alloc, notebook, BUDGET)?;
     let mut steps = Steps::<L>::new(blank);
     let mut lines = Vec::new(alloc);
     for call in calls {
@@ -145,8 +146,10 @@ fn calls_lines<L: Ledger>(
 }
 
 // What each of these calls gives, one a line.
-fn lines_of(alloc: Global, calls: &[Call<'_>]) -> Result<Vec<u8>, Unopened> {
-    calls_lines::<Brand>(alloc, calls, Blank::new(1))
+fn lines_of(alloc: Global, notebook: &Notebook, calls: &[Call<'_>]) -> Result<Vec<u8>, Memory>
+    requires { IsTrue (are_thin (view_cells notebook.now)) }
+{
+    calls_lines::<Brand>(alloc, notebook, calls, Blank::new(1))
 }
 
 const CALLS: &[Call<'static>] = &[
@@ -232,41 +235,8 @@ pending 0
 
 #[test]
 fn answers_messages(rt: HostRuntime) -> Result<(), Fail> {
-    let lines = lines_of(rt.alloc(), CALLS)?;
+    let notebook = slider(rt.alloc())?;
+    let lines = lines_of(rt.alloc(), &notebook, CALLS)?;
     assert_eq!(rt; lines.as_slice(), GIVEN);
-    Ok(())
-}
-
-fn replayed<L: Ledger>(alloc: Global, messages: &[&[u8]], blank: Blank) -> Result<Vec<u8>, Unopened>
-    requires { (blank.name ≡ L.name) × (blank.parts ≡ L.parts) × (0 < blank.parts) }
-{
-    let notebook = slider(alloc)?;
-    let mut steps = Steps::<L>::new(blank);
-    let frames = replay(alloc, &notebook, BUDGET, messages, &mut steps)?;
-    Ok(frames_text(alloc, frames.as_slice())?)
-}
-
-fn replay_lines(alloc: Global, messages: &[&[u8]]) -> Result<Vec<u8>, Unopened> {
-    replayed::<Brand>(alloc, messages, Blank::new(1))
-}
-
-const REPLAYED: &[u8] =
-    b"{\"cell\":0,\"console\":[],\"error\":null,\"output\":null,\"status\":\"ok\"}
-{\"cell\":1,\"console\":[],\"error\":null,\"output\":null,\"status\":\"ok\"}
-{\"cell\":2,\"console\":[],\"error\":null,\"output\":{\"text\":\"1\",\"type\":\"plain\"},\"status\":\"ok\"}
-{\"done\":3}
-{\"cell\":2,\"console\":[],\"error\":null,\"output\":{\"text\":\"5\",\"type\":\"plain\"},\"status\":\"ok\"}
-{\"done\":1}
-{\"name\":\"s\",\"refused\":\"value\"}
-{\"done\":0}
-";
-
-#[test]
-fn replays_messages(rt: HostRuntime) -> Result<(), Fail> {
-    let lines = replay_lines(
-        rt.alloc(),
-        &[OPEN, b"{\"set\":{\"s\":4}}", b"{\"set\":{\"s\":11}}"],
-    )?;
-    assert_eq!(rt; lines.as_slice(), REPLAYED);
     Ok(())
 }

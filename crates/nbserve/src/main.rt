@@ -12,11 +12,13 @@ mod kernel_state;
 #[cfg(test)]
 mod kernel_tests;
 pub mod laws;
+mod loading;
 mod message;
-mod opening;
+mod play;
 mod refusal;
-mod replay;
+mod script;
 mod stepping;
+mod stop;
 mod taking;
 #[cfg(test)]
 mod tests;
@@ -31,7 +33,8 @@ use std::io::ErrorKind;
 use std::marker::Brand;
 use std::process::ExitCode;
 use std::sync::ledger::{Blank, Ledger};
-use top::{WANT_OF_MEMORY, run_words};
+use stop::WANT_OF_MEMORY;
+use top::run_words;
 
 // Runs the program over the files of the system and the standard output. Nothing reads the count of its steps.
 fn run_really<L: Ledger>(rt: &HostRuntime, words: &[String], blank: Blank) -> u8

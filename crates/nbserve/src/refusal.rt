@@ -1,7 +1,7 @@
 // Why a notebook is refused, and the line that says so.
 ghost use Rattle.std.specs.Prelude.{◌≡◌, ◌++◌, IfOk, OnOk, codes, decimal, flat_map, string_bytes};
 ghost use Rattle.nbserve.specs.Refused.{refusal_of};
-ghost use Rattle.notebook_meaning.specs.Once as once;
+ghost use Rattle.notebook_meaning.specs.Program as program;
 
 use cell_graph::CellList;
 use py_value::Text;
@@ -20,7 +20,7 @@ pub enum Refusal {
 
 // The line for a name that is defined again.
 fn doubly_text(alloc: Global, name: &str, first: u32, second: u32) -> Result<String, AllocError>
-    ensures { IfOk result (λ text. string_bytes text ≡ once.refusal_text (once.Doubly name.now first second)) }
+    ensures { IfOk result (λ text. string_bytes text ≡ program.refusal_text (program.Doubly name.now first second)) }
 {
     format!(in alloc; "refused doubly {name} {first} {second}\n")
 }
@@ -37,7 +37,7 @@ fn push_cells(text: &mut String, cells: &[u32]) -> Result<(), AllocError>
 
 // The line for cells on a cycle.
 fn cycle_text(alloc: Global, cells: &[u32]) -> Result<String, AllocError>
-    ensures { IfOk result (λ text. string_bytes text ≡ once.refusal_text (once.Cycle cells.now)) }
+    ensures { IfOk result (λ text. string_bytes text ≡ program.refusal_text (program.Cycle cells.now)) }
 {
     let mut text = String::from_str(alloc, "refused cycle")?;
     push_cells(&mut text, cells)?;
@@ -47,7 +47,7 @@ fn cycle_text(alloc: Global, cells: &[u32]) -> Result<String, AllocError>
 
 /// The line for a notebook that is refused.
 pub fn refusal_text(alloc: Global, why: &Refusal) -> Result<String, AllocError>
-    ensures { IfOk result (λ text. string_bytes text ≡ once.refusal_text (refusal_of why.now)) }
+    ensures { IfOk result (λ text. string_bytes text ≡ program.refusal_text (refusal_of why.now)) }
 {
     match why {
         Refusal::Thin { line } => format!(in alloc; "refused {line} Thin\n"),

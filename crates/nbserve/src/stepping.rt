@@ -1,10 +1,10 @@
 // The frames of an answer, one after the other.
 ghost use Rattle.std.specs.Prelude.{◌≡◌, IfOk, IsOk, OnErr, OnOk, false};
 ghost use Rattle.nbserve.specs.KernelState.{IsKept, visit_of};
-ghost use Rattle.nbserve.specs.Stepping.{Goes};
-ghost use Rattle.nbserve.specs.Visit.{Gives};
+ghost use Rattle.nbserve.specs.Visit.{Gives, IsStep};
 ghost use Rattle.nbserve.specs.declared.coming.Coming.TheVariants as coming;
 
+use crate::answers::Stepped;
 use crate::cell_frame::copy_frame;
 use crate::coming::{Cells, Coming};
 use crate::kernel_state::KernelState;
@@ -16,28 +16,30 @@ use std::mem;
 use std::sync::ledger::Ledger;
 
 impl<'n> KernelState<'n> {
-    /// The next frame of the answer; none where none is to come. For the frame of a cell the cell runs or is cancelled.
+    /// Gives the next frame of the answer, where one is to come. For the frame of a cell the cell runs or is cancelled.
     pub fn next_frame<L: Ledger>(
         &mut self,
         alloc: Global,
         steps: &mut Steps<L>,
-    ) -> Result<Option<Frame>, Memory>
+    ) -> Result<Stepped, Memory>
         requires { IsKept self.old }
         ensures kept { OnOk result (IsKept self.new) }
-        ensures goes { IfOk result (λ frame. Goes frame (visit_of false self.old) (visit_of false self.new) steps.old steps.new) }
+        ensures steps { IfOk result (λ stepped. IsStep (visit_of false self.old) (visit_of false self.new) steps.old steps.new stepped) }
         ensures idle { self.old.coming ≡ coming.Nothing → IsOk result }
         ensures newest { OnErr result (self.new.newest ≡ self.old.newest) }
     {
         match mem::replace(&mut self.coming, Coming::Nothing) {
-            Coming::Nothing => Ok(None),
+            Coming::Nothing => Ok(Stepped::Idle),
             Coming::Refusal(why) => {
                 self.coming = Coming::Results {
                     cells: Cells::Lent(&[]),
                     taken: 0,
                 };
-                Ok(Some(why))
+                Ok(Stepped::Frame(why))
             }
-            Coming::Results { cells, taken } => Ok(Some(self.next_of(alloc, cells, taken, steps)?)),
+            Coming::Results { cells, taken } => {
+                Ok(Stepped::Frame(self.next_of(alloc, cells, taken, steps)?))
+            }
         }
     }
 

@@ -1,86 +1,154 @@
 // The top call.
-ghost use Rattle.std.specs.Prelude.{◌≡◌, ◌⊎◌, ℕ, ◌+◌, ◌≤◌, List, [], map, string_bytes, sum, Some, None};
+ghost use Rattle.std.specs.Prelude.{◌≡◌, ◌⊎◌, ℕ, ◌+◌, ◌≤◌, IfErr, IfOk, IsTrue, List, map, OnErr, string_bytes, Some, None};
 ghost use Rattle.link_io.specs.Outside.{Rose};
-ghost use Rattle.nbserve.specs.Refused.{refusal_of};
-ghost use Rattle.nbserve.specs.Wrote.{Wrote, Ended, Refuses};
-ghost use Rattle.notebook_meaning.specs.Once.{Once, command_of, IsAccepted, IsRefused, read_of, usual_budget};
-ghost use Rattle.notebook_meaning.specs.Thin.{IsForm};
-ghost use Rattle.notebook_meaning.specs.Whole.{whole};
+ghost use Rattle.nbserve.specs.Carried.{Carried, IsDone, IsPlayed};
+ghost use Rattle.nbserve.specs.Cut.{IsCutOff};
+ghost use Rattle.nbserve.specs.Stops.{IsStopped, IsUnloaded, IsUnplayed, IsUnread};
+ghost use Rattle.nbserve.specs.Works.{Works, label_of, last_of};
+ghost use Rattle.nbserve.specs.Wrote.{Wrote};
+ghost use Rattle.notebook_meaning.specs.Answer.{Before, Message, parts_from, work};
+ghost use Rattle.notebook_meaning.specs.Messages.{AreMessages};
+ghost use Rattle.notebook_meaning.specs.Program as program;
+ghost use Rattle.notebook_meaning.specs.Program.{command_of, notebook_of, AreRead, IsAccepted, IsLoaded, IsRefused, read_of, usual_budget};
+ghost use Rattle.notebook_meaning.specs.Scripts.{IsNoScript};
+ghost use Rattle.notebook_meaning.specs.Thin.{are_thin};
 ghost use Rattle.py_tree.specs.Trees.{Cell};
+ghost use Rattle.py_tree.specs.View.{view_cells};
 
-use crate::opening::{Unopened, opening_text};
-use crate::refusal::{Refusal, refusal_text};
-use crate::words::once_file;
-use link_io::{Files, ReadFault, Sink, read_file, write_all};
+use crate::loading::load;
+use crate::message::OPEN_MESSAGE;
+use crate::play::{PlayFault, play};
+use crate::script::read_script;
+use crate::stop::{DONE, Stop, WANT_OF_MEMORY, WRITE_FAULT, end_stopped, end_with};
+use crate::words::{Command, read_command};
+use cell_graph::Notebook;
+use line_parser::BYTE_LIMIT;
+use link_io::{Files, ReadFault, Sink, read_file};
 use py_eval::Steps;
 use std::alloc::Global;
 use std::sync::ledger::Ledger;
 
-// The greatest number of bytes of a notebook's file.
-const BYTE_LIMIT: u64 = 1_048_576;
+// The usual budget of a cell, in steps.
+const USUAL_BUDGET: u64 = 200_000;
 
-// The program's statuses.
-const DONE: u8 = 0;
+// What stands before each frame of a script's visitor.
+const VISITOR_LABEL: &[u8] = b"1 ";
 
-const REFUSED: u8 = 1;
+// The line behind the frames of a script: how many cached blocks ran, and how many were taken from the cache.
+const LAST_LINE: &[u8] = b"end runs 0 hits 0\n";
 
-const USAGE: u8 = 2;
-
-const READ_FAULT: u8 = 3;
-
-const WRITE_FAULT: u8 = 4;
-
-/// Memory was wanting.
-pub const WANT_OF_MEMORY: u8 = 5;
-
-// Writes the text of a status, and answers the status, or that the text couldn't be written.
-fn end_with<O: Sink>(out: &mut O, text: &[u8], status: u8) -> u8
-    ensures { Ended status text.now result (O.taken out.old) (O.taken out.new) (Rose (O.faults out.old) (O.faults out.new)) }
+// The bytes of a file, or one more than the limit where it has more.
+fn bytes_in<F: Files>(alloc: Global, files: &mut F, file: &str) -> Result<Vec<u8>, Stop>
+    ensures read { IfOk result (λ bytes. AreRead (F.holds files.old) file.now bytes.items) }
+    ensures unread { IfErr result (λ why. IsUnread why (Rose (F.faults files.old) (F.faults files.new))) }
+    ensures same { (other : List ℕ) → F.holds files.new other ≡ F.holds files.old other }
+    ensures later { F.faults files.old ≤ F.faults files.new }
 {
-    match write_all(out, text) {
-        Ok(()) => status,
-        Err(_) => WRITE_FAULT,
+    match read_file(alloc, files, file, BYTE_LIMIT as u64) {
+        Ok(bytes) => Ok(bytes),
+        Err(ReadFault::Failed) => Err(Stop::Unread),
+        Err(ReadFault::Memory) => Err(Stop::Memory),
     }
 }
 
-// Opens a notebook, and writes its frames or why it is refused.
-fn run_once<F: Files, O: Sink, L: Ledger>(
+// The notebook of a file.
+fn notebook_in<F: Files>(alloc: Global, files: &mut F, file: &str) -> Result<Notebook, Stop>
+    ensures loaded { IfOk result (λ nb. IsLoaded (F.holds files.old) file.now (view_cells nb)) }
+    ensures unloaded { IfErr result (λ why. IsUnloaded (F.holds files.old) (Rose (F.faults files.old) (F.faults files.new)) file.now why) }
+    ensures same { (other : List ℕ) → F.holds files.new other ≡ F.holds files.old other }
+    ensures later { F.faults files.old ≤ F.faults files.new }
+{
+    let bytes = bytes_in(alloc, files, file)?;
+    load(alloc, bytes.as_slice())
+}
+
+// Plays messages, and then writes a last text.
+fn perform<O: Sink, L: Ledger>(
     alloc: Global,
+    notebook: &Notebook,
+    label: &[u8],
+    messages: &[&[u8]],
+    last: &[u8],
+    out: &mut O,
+    steps: &mut Steps<L>,
+) -> u8
+    requires { IsTrue (are_thin (view_cells notebook.now)) }
+    ensures { (ms : List Message) → AreMessages (map (λ m. m.now) messages.now) ms
+        → IsDone (view_cells notebook.now) ms label.now last.now result
+        (O.taken out.old) (O.taken out.new) (Rose (O.faults out.old) (O.faults out.new)) steps.old steps.new }
+{
+    match play(alloc, notebook, USUAL_BUDGET, label, messages, out, steps) {
+        Ok(()) => end_with(out, last, DONE),
+        Err(PlayFault::WriteFault) => WRITE_FAULT,
+        Err(PlayFault::Memory) => WANT_OF_MEMORY,
+    }
+}
+
+// Plays the script of a file.
+fn perform_script<F: Files, O: Sink, L: Ledger>(
+    alloc: Global,
+    notebook: &Notebook,
     file: &str,
     files: &mut F,
     out: &mut O,
     steps: &mut Steps<L>,
-) -> u8
-    ensures wrote { (words : List (List ℕ)) → command_of words ≡ Some (Once file.now)
-        → Wrote (F.holds files.old) (Rose (F.faults files.old) (F.faults files.new)) (Rose (O.faults out.old) (O.faults out.new)) words result
-        (O.taken out.old) (O.taken out.new) }
-    ensures steps { result ≡ 0 → (all : List ℕ) (nb : List Cell) → F.holds files.old file.now ≡ Some (Some all)
-        → IsForm (read_of all) nb → steps.new ≡ steps.old + sum (whole nb usual_budget []).costs }
+) -> Result<u8, Stop>
+    requires { IsTrue (are_thin (view_cells notebook.now)) }
+    ensures played { IfOk result (λ status. IsPlayed (F.holds files.old) file.now (view_cells notebook.now) status
+        (O.taken out.old) (O.taken out.new) (Rose (O.faults out.old) (O.faults out.new)) steps.old steps.new) }
+    ensures unplayed { IfErr result (λ why. IsUnplayed (F.holds files.old) (Rose (F.faults files.old) (F.faults files.new)) file.now why) }
+    ensures kept { OnErr result (out.new ≡ out.old) }
+    ensures still { OnErr result (steps.new ≡ steps.old) }
 {
-    let bytes = match read_file(alloc, files, file, BYTE_LIMIT) {
-        Ok(bytes) => bytes,
-        Err(ReadFault::Failed) => return end_with(out, b"read fault\n", READ_FAULT),
-        Err(ReadFault::Memory) => return WANT_OF_MEMORY,
-    };
-    match opening_text(alloc, bytes.as_slice(), steps) {
-        Ok(text) => end_with(out, text.as_slice(), DONE),
-        Err(Unopened::Refused(why)) => refuse(alloc, &why, out),
-        Err(Unopened::Memory) => WANT_OF_MEMORY,
-    }
+    let bytes = bytes_in(alloc, files, file)?;
+    let messages = read_script(alloc, bytes.as_slice())?;
+    Ok(perform(
+        alloc,
+        notebook,
+        VISITOR_LABEL,
+        messages.as_slice(),
+        LAST_LINE,
+        out,
+        steps,
+    ))
 }
 
-// Writes why a notebook is refused.
-fn refuse<O: Sink>(alloc: Global, why: &Refusal, out: &mut O) -> u8
-    ensures { Refuses (refusal_of why.now) result (O.taken out.old) (O.taken out.new) (Rose (O.faults out.old) (O.faults out.new)) }
+// Carries out the command that the words ask for, and answers the status; or why nothing runs, and then nothing was written and no
+// step counted.
+fn carry_out<F: Files, O: Sink, L: Ledger>(
+    alloc: Global,
+    words: &[String],
+    files: &mut F,
+    out: &mut O,
+    steps: &mut Steps<L>,
+) -> Result<u8, Stop>
+    ensures carried { IfOk result (λ status. Carried (F.holds files.old) (map string_bytes words.now) status
+        (O.taken out.old) (O.taken out.new) (Rose (O.faults out.old) (O.faults out.new)) steps.old steps.new) }
+    ensures stopped { IfErr result (λ why. IsStopped (F.holds files.old) (Rose (F.faults files.old) (F.faults files.new))
+        (map string_bytes words.now) why) }
+    ensures kept { OnErr result (out.new ≡ out.old) }
+    ensures still { OnErr result (steps.new ≡ steps.old) }
 {
-    match refusal_text(alloc, why) {
-        Ok(text) => end_with(out, text.as_bytes(), REFUSED),
-        Err(_) => WANT_OF_MEMORY,
+    let Some(command) = read_command(words) else {
+        return Err(Stop::Usage);
+    };
+    let notebook = notebook_in(alloc, files, command.notebook())?;
+    match command {
+        Command::Once { .. } => Ok(perform(
+            alloc,
+            &notebook,
+            b"",
+            &[OPEN_MESSAGE],
+            b"",
+            out,
+            steps,
+        )),
+        Command::Play { script, .. } => perform_script(alloc, &notebook, script, files, out, steps),
     }
 }
 
 /// Carries out the command that the words ask for, and answers the program's status: 0 done, 1 refused notebook, 2 usage,
-/// 3 read fault, 4 write fault, 5 want of memory. The words don't include the program's own name.
+/// 3 read fault, 4 write fault, 5 want of memory, 6 no script. The words don't include the program's own name.
 pub fn run_words<F: Files, O: Sink, L: Ledger>(
     alloc: Global,
     words: &[String],
@@ -88,10 +156,11 @@ pub fn run_words<F: Files, O: Sink, L: Ledger>(
     out: &mut O,
     steps: &mut Steps<L>,
 ) -> u8
-    ensures range { result ≤ 5 }
+    ensures range { result ≤ 6 }
 
-    // What was written: the frames of the opening at 0, why the notebook is refused at 1, `usage` at 2, `read fault` at 3, and a
-    // beginning of one of these at 4 and 5. It also says what 0, 1 and 2 tell of the words and of the file.
+    // What was written: the frames of the opening or the text of the script at 0, why the notebook is refused at 1, `usage` at 2,
+    // `read fault` at 3, why the bytes of the script are none at 6, and a beginning of one of these at 4 and 5. It also says what 0, 1, 2
+    // and 6 tell of the words and of the files.
     ensures wrote { Wrote (F.holds files.old) (Rose (F.faults files.old) (F.faults files.new)) (Rose (O.faults out.old) (O.faults out.new))
         (map string_bytes words.now) result (O.taken out.old) (O.taken out.new) }
 
@@ -102,29 +171,43 @@ pub fn run_words<F: Files, O: Sink, L: Ledger>(
     // Words that are no form are answered so, unless that can't be written.
     ensures usage { command_of (map string_bytes words.now) ≡ None → (result ≡ 2) ⊎ (result ≡ 4) ⊎ (result ≡ 5) }
 
-    // An accepted notebook is opened, unless a fault comes or memory is wanting.
-    ensures accepted { (file all : List ℕ) (nb : List Cell) → command_of (map string_bytes words.now) ≡ Some (Once file)
-        → F.holds files.old file ≡ Some (Some all) → IsAccepted (read_of all) nb
+    // A command that can be carried out is, unless a fault comes or memory is wanting.
+    ensures accepted { (nb : List Cell) (ms : List Message) → Works (F.holds files.old) (map string_bytes words.now) nb ms
         → (result ≡ 0) ⊎ (result ≡ 3) ⊎ (result ≡ 4) ⊎ (result ≡ 5) }
 
-    // A notebook that isn't accepted is refused, unless a fault comes or memory is wanting.
-    ensures refused { (file all : List ℕ) → command_of (map string_bytes words.now) ≡ Some (Once file)
-        → F.holds files.old file ≡ Some (Some all) → IsRefused (read_of all)
-        → (result ≡ 1) ⊎ (result ≡ 3) ⊎ (result ≡ 4) ⊎ (result ≡ 5) }
-
-    // Where no count of faults rises, an accepted notebook is opened, or memory is wanting.
-    ensures complete { (file all : List ℕ) (nb : List Cell) → command_of (map string_bytes words.now) ≡ Some (Once file)
-        → F.holds files.old file ≡ Some (Some all) → IsAccepted (read_of all) nb
+    // Where no count of faults rises, it is carried out, or memory is wanting.
+    ensures complete { (nb : List Cell) (ms : List Message) → Works (F.holds files.old) (map string_bytes words.now) nb ms
         → (Rose (F.faults files.old) (F.faults files.new) → ⊥) → (Rose (O.faults out.old) (O.faults out.new) → ⊥)
         → (result ≡ 0) ⊎ (result ≡ 5) }
 
-    // The steps of an accepted notebook that was opened are counted.
-    ensures steps { result ≡ 0 → (file all : List ℕ) (nb : List Cell) → command_of (map string_bytes words.now) ≡ Some (Once file)
+    // The steps of all cells that run for its messages are counted.
+    ensures steps { result ≡ 0 → (nb : List Cell) (ms : List Message) → Works (F.holds files.old) (map string_bytes words.now) nb ms
+        → steps.new ≡ steps.old + work nb usual_budget ms }
+
+    // Where a write fails and no count of read faults rises, a command that can be carried out is cut at the line of the last frame that a
+    // step gave, or in its last line: all before it was written, and no cell ran behind it.
+    ensures cut { result ≡ 4 → (asked : program.Command) (nb : List Cell) (ms : List Message)
+        → command_of (map string_bytes words.now) ≡ Some asked → Works (F.holds files.old) (map string_bytes words.now) nb ms
+        → (Rose (F.faults files.old) (F.faults files.new) → ⊥)
+        → IsCutOff (label_of asked) (last_of asked) (parts_from nb usual_budget Before ms)
+        (O.taken out.old) (O.taken out.new) steps.old steps.new }
+
+    // A notebook that isn't accepted is refused, unless a fault comes or memory is wanting.
+    ensures refused { (asked : program.Command) (all : List ℕ) → command_of (map string_bytes words.now) ≡ Some asked
+        → F.holds files.old (notebook_of asked) ≡ Some (Some all) → IsRefused (read_of all)
+        → (result ≡ 1) ⊎ (result ≡ 3) ⊎ (result ≡ 4) ⊎ (result ≡ 5) }
+
+    // Bytes that are no script are answered so, where the notebook is accepted, unless a fault comes or memory is wanting.
+    ensures no_script { (file script all text : List ℕ) (nb : List Cell) → command_of (map string_bytes words.now) ≡ Some (program.Play file script)
         → F.holds files.old file ≡ Some (Some all) → IsAccepted (read_of all) nb
-        → steps.new ≡ steps.old + sum (whole nb usual_budget []).costs }
+        → F.holds files.old script ≡ Some (Some text) → IsNoScript (read_of text)
+        → (result ≡ 6) ⊎ (result ≡ 3) ⊎ (result ≡ 4) ⊎ (result ≡ 5) }
+
+    // Nothing runs before all tests are passed.
+    ensures unrun { (result ≡ 1) ⊎ (result ≡ 2) ⊎ (result ≡ 3) ⊎ (result ≡ 6) → steps.new ≡ steps.old }
 {
-    match once_file(words) {
-        Some(file) => run_once(alloc, file, files, out, steps),
-        None => end_with(out, b"usage\n", USAGE),
+    match carry_out(alloc, words, files, out, steps) {
+        Ok(status) => status,
+        Err(stop) => end_stopped(alloc, &stop, out),
     }
 }

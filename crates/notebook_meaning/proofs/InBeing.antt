@@ -7,7 +7,7 @@ use Rattle.std.proofs.lemmas.Option.{none-some}
 use Rattle.py_tree.specs.Elements.{created, created_by, elements, head_elements, is_mo_ui, ui_kind}
 use Rattle.py_tree.specs.Names.{Name, is_among, is_local}
 use Rattle.py_tree.specs.Scope.{defs}
-use Rattle.py_tree.specs.Trees.{Tree, name, attribute, call, Trees, Head, value, assign, import_mo, stmt, Stmts, end, then_comes, Cell}
+use Rattle.py_tree.specs.Trees.{Tree, attribute, call, Trees, Head, value, assign, import_mo, stmt, Stmts, end, then_comes, Cell}
 use Rattle.py_value.specs.ElementData.{ElementData}
 use Rattle.py_value.specs.Elements.{Arguments, Params, Range, at_kept, given, has_text, is_in_range, kind_called, made, number_at, param, range_at, slider, slider_by, slider_of, slider_parameters}
 use Rattle.py_value.specs.Maps.{Map, look_up, put}

@@ -17,6 +17,8 @@ pub mod PresentValues
 pub mod Reaching
 pub mod RerunSuffices
 pub mod ResultsOf
+pub mod ScriptTexts
 pub mod SettingValues
+pub mod SliderAnswers
 pub mod Standing
 pub mod ThinCells

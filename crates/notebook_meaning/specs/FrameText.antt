@@ -1,8 +1,7 @@
 -- The text of a frame: compact JSON, the members in the order of their names.
-use Rattle.std.specs.Prelude.{ℕ, ◌/◌, ◌%◌, cond, ◌==◌, ◌||◌, nat_lt, List, [], ◌∷◌, ◌++◌, codes, decimal, flat_map, map, Option, Some, None}
+use Rattle.std.specs.Prelude.{ℕ, ◌/◌, ◌%◌, false, cond, ◌==◌, ◌||◌, nat_lt, List, [], ◌∷◌, ◌++◌, codes, decimal, flat_map, map, Option, Some, None}
 use Rattle.std.specs.List.{join_with_byte}
 use Rattle.std.specs.Fmt.{digit_glyph}
-use Rattle.std.specs.Prelude.{false}
 use Rattle.py_value.specs.declared.error_kind.ErrorKind.{ErrorKind}
 use Rattle.py_value.specs.declared.error_kind.ErrorKind.TheVariants as kind
 use Rattle.notebook_meaning.specs.declared.frames.Status.{Status}
@@ -103,6 +102,9 @@ frame_text frame.BadOrder = refused_text (codes "order")
 frame_text (frame.NoElement name) = named_refused_text name (codes "element")
 frame_text (frame.NoValue name) = named_refused_text name (codes "value")
 
--- one frame per line
+-- one frame per line, each behind a label
+abbrev pub labelled : List ℕ → List Frame → List ℕ
+labelled label = flat_map (λ f. label ++ frame_text f ++ 10 ∷ [])
+
 abbrev pub frame_lines : List Frame → List ℕ
-frame_lines = flat_map (λ f. frame_text f ++ 10 ∷ [])
+frame_lines = labelled []

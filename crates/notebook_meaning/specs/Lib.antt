@@ -5,10 +5,11 @@ pub mod Graph
 pub mod LaidOver
 pub mod Meaning
 pub mod Messages
-pub mod Once
+pub mod Program
 pub mod Reruns
 pub mod Runs
 pub mod Samples
+pub mod Scripts
 pub mod Spending
 pub mod Thin
 pub mod Trace

@@ -251,7 +251,7 @@ file_lines nb = header ++ flat_map cell_lines nb ++ footer
 abbrev pub text_of : List (List ℕ) → List ℕ
 text_of = flat_map (λ l. l ++ 10 ∷ [])
 
--- the greatest number of bytes that a notebook's file may have
+-- the greatest number of bytes that a notebook's file, and a script, may have
 abbrev pub byte_limit : ℕ
 byte_limit = 1048576
 

@@ -20,8 +20,9 @@ ghost use Rattle.notebook_meaning.specs.Whole.{ended_ok, whole};
 ghost use Rattle.notebook_meaning.specs.Fails.{FailsAt};
 ghost use Rattle.notebook_meaning.specs.FrameText.{frame_lines};
 ghost use Rattle.notebook_meaning.specs.Thin.{are_thin, file_lines, text_of};
-ghost use Rattle.notebook_meaning.specs.Once.{IsAccepted, Doubly, Cycle, FailsFirst, refusal_text, usual_budget, once_text};
-ghost use Rattle.notebook_meaning.specs.Samples.{three_cells, three_cells_file, three_cells_text, lone_name, lone_name_text, failing, failing_text, doubled, cyclic, diamond, too_great, too_great_text, four_steps, with_slider, with_slider_file, with_slider_text, with_slider_answers, s_at_four, reads_s};
+ghost use Rattle.notebook_meaning.specs.Program.{IsAccepted, Doubly, Cycle, FailsFirst, refusal_text, usual_budget, once_text};
+ghost use Rattle.notebook_meaning.specs.Samples.{three_cells, three_cells_file, three_cells_text, lone_name, lone_name_text, failing, failing_text, doubled, cyclic, diamond, too_great, too_great_text, four_steps, with_slider, with_slider_file, with_slider_text, with_slider_answers, with_slider_script, with_slider_played, s_at_four, reads_s};
+ghost use Rattle.notebook_meaning.specs.Scripts.{Script, Nobody, Visitor, IsScript, FaultAt, script_text};
 ghost use Rattle.notebook_meaning.specs.Spending.{Failed, Spent, runs, cost_of};
 ghost use Rattle.notebook_meaning.specs.declared.binding.Binding.TheVariants.{Plain};
 ghost use Rattle.notebook_meaning.specs.declared.frames.CellFrame.{CellFrame};
@@ -34,7 +35,8 @@ pub fn order_and_cycles()
     ensures none { (nb : List Cell) (c : ℕ) → is_in c (order nb) ≡ true → LiesOnCycle nb c → ⊥ }
 {}
 
-/// The cells that run again are those to which a chain leads from a cell that references one of the names, each once.
+/// In a notebook without a cycle the cells that run again are those to which a chain leads from a cell that references one of the names;
+/// each of them runs once.
 pub fn what_runs_again()
     ensures reached { (nb : List Cell) (names : List Name) → NoneCyclic nb → (c : ℕ) → c < length nb
         → (IsTrue (is_in c (rerun nb names)) ↔ IsReached nb names c) }
@@ -53,7 +55,7 @@ pub fn messages_are_read_one_way()
     ensures one { (bytes : List ℕ) (m k : Message) → IsMessage bytes m → IsMessage bytes k → m ≡ k }
 {}
 
-/// What the definitions say of small notebooks: the order, the file, what is written for them, what their cells cost, and why one is
+/// What the definitions say of small notebooks: the order, the file, what is written for them, what their cells cost, and why two are
 /// refused.
 pub fn worked_notebooks()
     ensures order { order three_cells ≡ 2 ∷ 1 ∷ 0 ∷ [] }
@@ -103,8 +105,8 @@ pub fn worked_answers()
     ensures refused { cost_of_parts (answer with_slider usual_budget (On s_at_four) (Set ((codes "s", V.Int (pos 11)) ∷ []))).parts ≡ 0 }
 {}
 
-/// What is in being where a visitor's messages have led: an element of each name that a cell creates which has ended ok, and no other;
-/// and each present value is that of an element in being, which admits it as it is.
+/// What is in being in an accepted notebook where a visitor's messages have led: an element of each name that a cell creates which has
+/// ended ok, and no other; and each present value is that of an element in being, which admits it as it is.
 pub fn elements_in_being()
     ensures being { (nb : List Cell) → are_thin nb ≡ true → NoneDoubled nb → NoneCyclic nb → (budget : ℕ) (ms : List Message) (ui : Map Value)
         → state_after nb budget Before ms ≡ On ui → (x : Name)
@@ -114,6 +116,24 @@ pub fn elements_in_being()
         → state_after nb budget Before ms ≡ On ui → (x : Name) (v : Value) → look_up x ui ≡ Some v
         → (e : ElementData) × (d : Data) × (element_in (whole nb budget ui).env x ≡ Some e)
         × (value_set (whole nb budget ui).env (x, v) ≡ Some d) × (v ≡ value_in d) }
+{}
+
+/// Bytes that are a script have no line that can't stand where it stands, and say one thing only; and other bytes have no two first such lines.
+pub fn scripts_are_read_one_way()
+    ensures script { (bytes : List ℕ) (s : Script) → IsScript bytes s → (k : ℕ) → FaultAt bytes k → ⊥ }
+    ensures one { (bytes : List ℕ) (s t : Script) → IsScript bytes s → IsScript bytes t → s ≡ t }
+    ensures line { (bytes : List ℕ) (k l : ℕ) → FaultAt bytes k → FaultAt bytes l → k ≡ l }
+{}
+
+/// The script of a visitor who opens the notebook with a slider and sets it to 4 and then to 11, and what is written for it; the empty script;
+/// and the first lines that can't stand where they stand of a script that is an empty line, and of one in which the visitor 2 sends something.
+pub fn worked_scripts()
+    ensures read { IsScript with_slider_script (Visitor (Open ∷ Set ((codes "s", V.Int (pos 4)) ∷ []) ∷ Set ((codes "s", V.Int (pos 11)) ∷ []) ∷ [])) }
+    ensures played { script_text with_slider usual_budget
+        (Visitor (Open ∷ Set ((codes "s", V.Int (pos 4)) ∷ []) ∷ Set ((codes "s", V.Int (pos 11)) ∷ []) ∷ [])) ≡ with_slider_played }
+    ensures nobody { IsScript [] Nobody }
+    ensures empty_line { FaultAt (codes "\n") 1 }
+    ensures other_visitor { FaultAt (codes "join 1\nsend 2 x") 2 }
 {}
 
 /// At which lines small inputs fail: the empty file at its first line, and the file of no cells with a line `q` behind it at that line.

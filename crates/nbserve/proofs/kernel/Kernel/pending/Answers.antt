@@ -2,5 +2,5 @@
 use Rattle.nbserve.proofs.Standings.{pending_of}
 use Rattle.nbserve.proofs.kernel.Kernel.pending.Goals as goal
 
-pub returns : goal.returns
-returns c = λ sound. pending_of c.self.inside.spoiled c.self.inside.state c.args.self.now c.count.result c.self.view_is c.self.invariant sound c.count.ensures
+pub returns-clause-count : goal.returns-clause-count
+returns-clause-count c = λ sound. pending_of c.self.inside.spoiled c.self.inside.state c.args.self.now c.count.result c.self.view_is c.self.invariant sound c.count.ensures

@@ -1,0 +1,81 @@
+-- Commands that are carried out, step by step.
+use Rattle.std.proofs.Common.{◌≡◌, refl, subst, inl, inr, ℕ, ◌+◌, ◌≤◌, List, ◌++◌, arith}
+use Rattle.std.specs.Prelude.{Option, Some, IfSome, codes}
+use Rattle.link_io.specs.Outside.{Rose, Took}
+use Rattle.link_io.proofs.Taken.{rose_since, took_both, took_part}
+use Rattle.notebook_meaning.specs.Answer.{Part, cost_of_parts, frames_in}
+use Rattle.notebook_meaning.specs.FrameText.{labelled}
+use Rattle.notebook_meaning.specs.Program as program
+use Rattle.notebook_meaning.specs.Program.{Comes, Command, Play, command_of, notebook_of, AreRead, FailsFirst, IsLoaded, Refusal, read_of, refusal_text}
+use Rattle.notebook_meaning.specs.Scripts.{FaultAt, fault_text}
+use Rattle.py_tree.specs.Trees.{Cell}
+use Rattle.nbserve.specs.Carried.{IsPlayed}
+use Rattle.nbserve.specs.Cut as cut
+use Rattle.nbserve.specs.Cut.{IsCutOff}
+use Rattle.nbserve.specs.Refused.{refusal_of}
+use Rattle.nbserve.specs.Stops.{IsStopped, IsUnloaded, IsUnplayed, Why}
+use Rattle.nbserve.specs.Wrote as wrote
+use Rattle.nbserve.specs.Wrote.{Ended}
+use Rattle.nbserve.specs.declared.stop.Stop.{Stop}
+use Rattle.nbserve.specs.declared.stop.Stop.TheVariants as stop
+
+-- a text after one that was written
+pub ended_after : (text last : List ℕ) (result : ℕ) (before between now : Option (List ℕ)) (a b d : ℕ) → Took before between text → a ≤ b
+    → Ended 0 last result between now (Rose b d) → Ended 0 (text ++ last) result before now (Rose a d)
+ended_after text last result before between now a b d first le (wrote.whole e took) = wrote.whole e (took_both before between now text last first took)
+ended_after text last result before between now a b d first le (wrote.cut e why part) =
+    wrote.cut e (rose_since a b d le why) (took_part before between now text last first part)
+ended_after text last result before between now a b d first le (wrote.unfinished e part) =
+    wrote.unfinished e (took_part before between now text last first part)
+
+-- a last text that is cut, after the lines of all frames
+pub cut_in_last : (label last : List ℕ) (parts : List Part) (result : ℕ) (before between now : Option (List ℕ)) (unwritten : Type 0) (count count_after : ℕ)
+    → Took before between (labelled label (frames_in parts)) → count_after ≡ count + cost_of_parts parts
+    → Ended 0 last result between now unwritten → result ≡ 4 → IsCutOff label last parts before now count count_after
+cut_in_last label last parts result before between now unwritten count count_after first steps (wrote.whole e took) four = absurd (omega (arith, e, four))
+cut_in_last label last parts result before between now unwritten count count_after first steps (wrote.cut e why part) four =
+    cut.in_last part.0 part.1 part.2 steps (took_both before between now (labelled label (frames_in parts)) part.0 first part.3)
+cut_in_last label last parts result before between now unwritten count count_after first steps (wrote.unfinished e part) four =
+    absurd (omega (arith, e, four))
+
+-- what tells why stops the run
+stops : (holds : List ℕ → Option (Option (List ℕ))) (failed : Type 0) (words : List (List ℕ)) (unread : Type 0) (refuses : Refusal → Type 0) (lines : ℕ → Type 0)
+    → (unread → Comes holds failed words 3 (codes "read fault\n"))
+    → ((why : Refusal) → refuses why → Comes holds failed words 1 (refusal_text why))
+    → ((line : ℕ) → lines line → Comes holds failed words 6 (fault_text line))
+    → (why : Stop) → Why unread refuses lines why → IsStopped holds failed words why
+stops holds failed words unread refuses lines read refused script stop.Usage is = absurd is
+stops holds failed words unread refuses lines read refused script stop.Unread is = inr (read is)
+stops holds failed words unread refuses lines read refused script (stop.Refused why) is = inr (refused (refusal_of why) is)
+stops holds failed words unread refuses lines read refused script (stop.NoScript line) is = inr (script line is)
+stops holds failed words unread refuses lines read refused script stop.Memory is = inl refl
+
+-- a notebook that isn't loaded stops the run
+pub unloaded_stops : (holds : List ℕ → Option (Option (List ℕ))) (failed : Type 0) (words : List (List ℕ)) (command : Command) (why : Stop)
+    → command_of words ≡ Some command → IsUnloaded holds failed (notebook_of command) why → IsStopped holds failed words why
+unloaded_stops holds failed words command why asked is =
+    stops holds failed words failed (λ refusal. (bytes : List ℕ) × AreRead holds (notebook_of command) bytes × FailsFirst bytes refusal) (λ line. ⊥)
+    (λ read. program.unread command asked read refl refl)
+    (λ refusal first. program.refused command first.0 refusal asked first.1 first.2 refl refl)
+    (λ line never. absurd never) why is
+
+-- what a name stands for, after an earlier file was read
+same_read : (holds later : List ℕ → Option (Option (List ℕ))) (file bytes : List ℕ) → later file ≡ holds file → AreRead later file bytes → AreRead holds file bytes
+same_read holds later file bytes same r = subst (λ o. IfSome o (λ told. (all : List ℕ) × (told ≡ Some all) × (bytes ≡ read_of all))) same r
+
+-- so does a script that isn't played,
+pub unplayed_stops : (holds later : List ℕ → Option (Option (List ℕ))) (a b d : ℕ) (words : List (List ℕ)) (file script : List ℕ) (nb : List Cell) (why : Stop)
+    → command_of words ≡ Some (Play file script) → IsLoaded holds file nb → later script ≡ holds script → a ≤ b → IsUnplayed later (Rose b d) script why
+    → IsStopped holds (Rose a d) words why
+unplayed_stops holds later a b d words file script nb why asked loaded same le is =
+    stops holds (Rose a d) words (Rose b d) (λ refusal. ⊥) (λ line. (bytes : List ℕ) × AreRead later script bytes × FaultAt bytes line)
+    (λ read. program.unread (Play file script) asked (rose_since a b d le read) refl refl)
+    (λ refusal never. absurd never)
+    (λ line at. program.no_script file script at.0 nb line asked loaded (same_read holds later script at.0 same at.1) at.2 refl refl) why is
+
+-- and one that is was read of the files as they were at first
+pub same_played : {later : List ℕ → Option (Option (List ℕ))} {script : List ℕ} {nb : List Cell} {status : ℕ} {before now : Option (List ℕ)} {unwritten : Type 0} {count count_after : ℕ}
+    → (holds : List ℕ → Option (Option (List ℕ))) → later script ≡ holds script → IsPlayed later script nb status before now unwritten count count_after
+    → IsPlayed holds script nb status before now unwritten count count_after
+same_played {later = later} {script = script} holds same p =
+    record { bytes = p.bytes; said = p.said; read = same_read holds later script p.bytes same p.read; is = p.is; done = p.done }

@@ -1,0 +1,19 @@
+// Notebooks from their files.
+ghost use Rattle.std.specs.Prelude.{IfErr, IfOk};
+ghost use Rattle.nbserve.specs.Stops.{IsWhy};
+ghost use Rattle.notebook_meaning.specs.Program.{IsAccepted};
+ghost use Rattle.py_tree.specs.View.{view_cells};
+
+use crate::stop::Stop;
+use cell_graph::{Notebook, notebook};
+use line_parser::thin;
+use std::alloc::Global;
+
+/// The notebook of which these bytes are the file. They have the form, no name is defined in two cells, and no cell lies on a cycle.
+pub fn load(alloc: Global, bytes: &[u8]) -> Result<Notebook, Stop>
+    ensures loaded { IfOk result (λ nb. IsAccepted bytes.now (view_cells nb)) }
+    ensures refused { IfErr result (λ why. IsWhy why bytes.now) }
+{
+    let cells = thin(alloc, bytes)?;
+    Ok(notebook(alloc, cells)?)
+}
