@@ -1,6 +1,6 @@
 -- The cells that are listed, the counts of parents that aren't, and the cells that are ready.
 use Rattle.std.proofs.Common.{◌≡◌, ℕ, zero, suc, ◌+◌, ◌<◌, ◌≤◌, Bool, true, false, cond, not, ◌&&◌, ◌||◌, ◌==◌, ⊎_elim, List, [], ◌∷◌, ◌++◌, length, get_or, map, filter, find, refl, sym, ap, ◌∙◌, subst, add-one, arith}
-use Rattle.std.specs.List.{list_all, All}
+use Rattle.std.specs.List.{list_all, All, count_by}
 use Rattle.std.proofs.lemmas.Bool.{both_ways, cases_Bool, cases_eq, cases_lt, eq-eqb, eqb-true, ne_eqb, and_parts, and_left, and_right, or_cases, or_left, or_right, or_from, and_from, not-true, not_from_true, not_from_false}
 use Rattle.std.proofs.lemmas.List.{length-map, get_or_default}
 use Rattle.std.proofs.lemmas.List.Elements.{All-filter}
@@ -9,11 +9,15 @@ use Rattle.std.proofs.lemmas.List.Sums.{sum_by-cons, count_by_more_yes, sum_by-t
 use Rattle.std.proofs.lemmas.Option.{slice_get-get_or}
 use Rattle.py_tree.specs.Trees.{Cell}
 use Rattle.notebook_meaning.specs.Graph.{numbers_from, all_cells, is_in, parents, edge, is_ready, next_cell, with_next, places}
-use Rattle.cell_graph.specs.Counts.{list_in, count_of, unlisted, AreWithin, AreTurned}
+use Rattle.cell_graph.specs.Counts.{list_in, count_of, AreWithin, AreTurned}
 use Rattle.cell_graph.specs.Kept.{AreParents}
 use Rattle.cell_graph.proofs.Numbers.{numbers_alike, find_within, Popped, popped, none_popped}
 use Rattle.cell_graph.proofs.Names.{filter_alike}
 use Rattle.cell_graph.proofs.Tallies.{is_in_push, past_all, none_counted, not_counted, or_false}
+
+-- how many of these cells aren't listed
+abbrev pub unlisted : List ℕ → List ℕ → ℕ
+unlisted listed cells = count_by (λ c. not (is_in c listed)) cells
 
 -- the test of a cell that isn't listed and waits for none
 abbrev pub is_free_of : List ℕ → List ℕ → ℕ → Bool

@@ -1,7 +1,6 @@
 -- Cells in lists of cells, counted.
-use Rattle.std.specs.Prelude.{◌≡◌, ℕ, ◌<◌, ◌==◌, not, List, [], length, slice_index_or}
+use Rattle.std.specs.Prelude.{◌≡◌, ℕ, ◌<◌, ◌==◌, List, [], length, slice_index_or}
 use Rattle.std.specs.List.{All, count_by}
-use Rattle.notebook_meaning.specs.Graph.{is_in}
 
 -- the list with this number, and no cells past the last one
 abbrev pub list_in : List (List ℕ) → ℕ → List ℕ
@@ -10,10 +9,6 @@ list_in lists a = slice_index_or lists a []
 -- how often the cell is in the list
 abbrev pub count_of : ℕ → List ℕ → ℕ
 count_of c cells = count_by (λ d. d == c) cells
-
--- how many of these cells aren't listed
-abbrev pub unlisted : List ℕ → List ℕ → ℕ
-unlisted listed cells = count_by (λ c. not (is_in c listed)) cells
 
 -- each list has only numbers of lists
 abbrev pub AreWithin : List (List ℕ) → Type 0

@@ -8,10 +8,11 @@ use Rattle.std.proofs.lemmas.List.{drop_more, length-map}
 use Rattle.std.proofs.lemmas.List.Elements.{All-head, All-tail}
 use Rattle.std.proofs.lemmas.Option.{get_or_from_slice_get, slice_get_read, slice_get_within}
 use Rattle.notebook_meaning.proofs.FixedPoint.{code_there}
-use Rattle.notebook_meaning.proofs.Going.{Going, Runs, going_next, next_result}
+use Rattle.notebook_meaning.proofs.Going.{Runs, going_next, next_result}
 use Rattle.notebook_meaning.proofs.Outcomes.{outcome_cell}
 use Rattle.notebook_meaning.specs.Answer.{Part, at_no_cost, results_of}
 use Rattle.notebook_meaning.specs.Meaning.{Env}
+use Rattle.notebook_meaning.specs.Underway.{Going}
 use Rattle.notebook_meaning.specs.declared.frames.CellFrame.{CellFrame}
 use Rattle.notebook_meaning.specs.declared.frames.Frame.TheVariants as frame
 use Rattle.py_tree.specs.Trees.{Cell}

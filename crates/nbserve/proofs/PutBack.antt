@@ -5,13 +5,13 @@ use Rattle.std.specs.Str.{bytes_eq}
 use Rattle.std.proofs.lemmas.Bool.{both_ways, cases_Bool, false_from_ne_true}
 use Rattle.py_tree.specs.Names.{Name}
 use Rattle.py_value.specs.ElementData.{ElementData, with_present}
-use Rattle.py_value.specs.Maps.{Map, look_up, put, where_name}
+use Rattle.py_value.specs.Maps.{Map, look_up, put, where_name, IsSortedMap}
 use Rattle.py_value.specs.declared.types.Data.{Data}
 use Rattle.py_value.specs.declared.types.Value.TheVariants as V
-use Rattle.py_value.proofs.SortedMaps.{IsSortedMap, look_up-put, look_up-put_other, look_up-where_on, name_of, same_maps, same_name, sorted_put, sorted_where_name}
+use Rattle.py_value.proofs.SortedMaps.{look_up-put, look_up-put_other, look_up-where_on, name_of, same_maps, same_name, sorted_put, sorted_where_name}
 use Rattle.notebook_meaning.specs.Answer.{element_in, named_so}
-use Rattle.notebook_meaning.specs.LaidOver.{with_element}
 use Rattle.notebook_meaning.specs.Meaning.{Env}
+use Rattle.notebook_meaning.specs.WithElement.{with_element}
 use Rattle.notebook_meaning.specs.declared.binding.Binding.TheVariants.{Plain}
 
 other_name : (x y : List ℕ) → bytes_eq x y ≡ false → not (bytes_eq y x) ≡ true

@@ -10,23 +10,23 @@ use Rattle.py_tree.specs.View.{view_cells}
 use Rattle.py_tree.specs.declared.tree.CellCode.{CellCode}
 use Rattle.py_value.specs.ElementData.{ElementData}
 use Rattle.py_value.specs.Elements.{admitted}
-use Rattle.py_value.specs.Maps.{Map, put, where_name}
+use Rattle.py_value.specs.Maps.{Map, put, where_name, IsSortedMap}
 use Rattle.py_value.specs.View.{data_of}
 use Rattle.py_value.specs.declared.types.Value.{Value}
 use Rattle.py_value.specs.declared.types.Value.TheVariants as V
 use Rattle.py_value.proofs.Levels.{value_of-data_of}
-use Rattle.py_value.proofs.SortedMaps.{IsSortedMap, look_up-where_off, look_up-where_on, same_maps, sorted_where_name}
+use Rattle.py_value.proofs.SortedMaps.{look_up-where_off, look_up-where_on, same_maps, sorted_where_name}
 use Rattle.notebook_meaning.specs.Answer.{On, Set, Part, Answered, at_no_cost, results_of, counted, element_in, value_set, with_value, next, answer}
 use Rattle.notebook_meaning.specs.Graph.{elements_of, order}
-use Rattle.notebook_meaning.specs.LaidOver.{laid_over, with_element}
 use Rattle.notebook_meaning.specs.Meaning.{Env}
 use Rattle.notebook_meaning.specs.Reruns.{is_within, rerun}
+use Rattle.notebook_meaning.specs.Underway.{Going, HasNoLocals}
+use Rattle.notebook_meaning.specs.WithElement.{with_element}
 use Rattle.notebook_meaning.specs.declared.frames.Frame.{Frame}
 use Rattle.notebook_meaning.specs.declared.frames.Frame.TheVariants as frame
 use Rattle.notebook_meaning.proofs.AtKept.{next_plain}
-use Rattle.notebook_meaning.proofs.Going.{Going}
-use Rattle.notebook_meaning.proofs.Outcomes.{HasNoLocals}
 use Rattle.notebook_meaning.proofs.ResultsOf.{one_each_kept, results_one_by_one}
+use Rattle.notebook_meaning.proofs.SettingValues.{laid_over}
 use Rattle.notebook_meaning.proofs.Standing as standing
 use Rattle.nbserve.specs.Coming.{cells_of, left_of}
 use Rattle.nbserve.specs.KernelState.{IsAfter, IsKept, IsPlain, StandsBy, state_of, visit_of}

@@ -4,12 +4,12 @@ use Rattle.std.specs.Prelude.{All, flat_map}
 use Rattle.std.proofs.lemmas.Bool.{both_ways, eqb-true, or_cases}
 use Rattle.std.proofs.lemmas.List.{length-map}
 use Rattle.std.proofs.lemmas.List.Elements.{All-head, All-tail}
-use Rattle.notebook_meaning.proofs.Going.{Going}
 use Rattle.notebook_meaning.proofs.Orders.{free_is_listed}
 use Rattle.notebook_meaning.proofs.ResultsOf.{one_each}
 use Rattle.notebook_meaning.proofs.Standing as standing
 use Rattle.notebook_meaning.specs.Answer.{Part, Before, On, at_no_cost, results_of}
 use Rattle.notebook_meaning.specs.Graph.{is_in, NoneCyclic}
+use Rattle.notebook_meaning.specs.Underway.{Going}
 use Rattle.notebook_meaning.specs.declared.frames.Frame.TheVariants as frame
 use Rattle.py_tree.specs.Trees.{Cell}
 use Rattle.py_tree.specs.View.{view_cell, view_cells}

@@ -7,9 +7,9 @@ use Rattle.std.proofs.lemmas.Option.{slice_get-map, slice_get-get_or}
 use Rattle.notebook_meaning.specs.Graph as graph
 use Rattle.notebook_meaning.specs.Meaning.{Env}
 use Rattle.notebook_meaning.specs.Spending.{runs}
+use Rattle.notebook_meaning.specs.Underway.{ended}
 use Rattle.notebook_meaning.specs.Whole as whole
 use Rattle.notebook_meaning.specs.declared.frames.CellFrame.{CellFrame}
-use Rattle.notebook_meaning.proofs.FixedPoint.{ended}
 use Rattle.py_tree.specs.Elements.{elements}
 use Rattle.py_tree.specs.Scope.{defs}
 use Rattle.py_tree.specs.Trees.{Cell}

@@ -8,9 +8,10 @@ use Rattle.py_tree.specs.declared.tree.CellCode.{CellCode}
 use Rattle.notebook_meaning.specs.Answer.{On, Open, Part, at_no_cost, results, results_of, counted, answer}
 use Rattle.notebook_meaning.specs.Graph.{order}
 use Rattle.notebook_meaning.specs.Thin.{are_thin}
+use Rattle.notebook_meaning.specs.Underway.{Going, HasNoElements}
 use Rattle.notebook_meaning.specs.declared.frames.Frame.TheVariants as frame
-use Rattle.notebook_meaning.proofs.AtKept.{HasNoElements, none_kept}
-use Rattle.notebook_meaning.proofs.Going.{Going, Runs, going_opens}
+use Rattle.notebook_meaning.proofs.AtKept.{none_kept}
+use Rattle.notebook_meaning.proofs.Going.{Runs, going_opens}
 use Rattle.notebook_meaning.proofs.ResultsOf.{all_results_one_by_one, one_each_all}
 use Rattle.nbserve.specs.Coming.{cells_of}
 use Rattle.nbserve.specs.KernelState.{IsBefore, IsKept, StandsBy, state_of, visit_of}

@@ -5,6 +5,7 @@ use Rattle.notebook_meaning.specs.Graph.{NoneCyclic, NoneDoubled}
 use Rattle.notebook_meaning.specs.Meaning.{Env, Flow}
 use Rattle.notebook_meaning.specs.Spending.{Spending, runs}
 use Rattle.notebook_meaning.specs.Thin.{are_thin}
+use Rattle.notebook_meaning.specs.Underway.{Going, HasNoElements, outcome_now}
 use Rattle.notebook_meaning.specs.Whole as whole
 use Rattle.py_tree.specs.Elements.{elements}
 use Rattle.py_tree.specs.Names.{is_local}
@@ -13,8 +14,6 @@ use Rattle.py_tree.specs.View.{view_cells}
 use Rattle.py_tree.specs.declared.tree.CellCode.{CellCode}
 use Rattle.py_value.specs.Maps.{Map, where_name}
 use Rattle.py_value.specs.declared.types.Value.{Value}
-use Rattle.notebook_meaning.proofs.AtKept.{HasNoElements}
-use Rattle.notebook_meaning.proofs.Going.{Going, outcome_now}
 use Rattle.nbserve.specs.Coming.{left_of, parts_of, IsWithin}
 use Rattle.nbserve.specs.Visit.{Visit, newest_in}
 use Rattle.nbserve.specs.declared.coming.Coming.TheVariants as coming

@@ -30,9 +30,10 @@ use Rattle.notebook_meaning.specs.Graph.{elements_of, parents, order}
 use Rattle.notebook_meaning.specs.Meaning.{Env, Scene, Flow, call_of, element_at, element_by, head_of, lines_of, present_of, read, read_module, result_at, right_of, value_of, values_after}
 use Rattle.notebook_meaning.specs.Reruns.{rerun}
 use Rattle.notebook_meaning.specs.Spending.{Spending, Got, Failed, Spent, runs}
-use Rattle.notebook_meaning.specs.Thin.{Elements, are_thin, is_cell, is_chain, is_line, is_name, is_slider_name, is_sum, is_target, is_term, are_lines, makes_slider}
+use Rattle.notebook_meaning.specs.Thin.{Elements, are_thin, is_cell, is_chain, is_line, is_name, is_slider_name, is_sum, is_target, are_lines, makes_slider}
 use Rattle.notebook_meaning.specs.Thin as thin_form
 use Rattle.notebook_meaning.specs.Trace.{Trace, Gives, ◌>>=◌}
+use Rattle.notebook_meaning.specs.Underway.{HasNoElements, is_element}
 use Rattle.notebook_meaning.specs.Whole.{Progress, without_defs, env_after, outcome_of, ended_ok, with_code, with_cell, with_cells, whole}
 use Rattle.notebook_meaning.specs.declared.binding.Binding.{Binding}
 use Rattle.notebook_meaning.specs.declared.binding.Binding.TheVariants.{Plain, Module}
@@ -41,16 +42,8 @@ use Rattle.notebook_meaning.proofs.ThinCells.{cell_lines, first_line, thin_cell}
 
 -- ---- values that are no elements
 
-abbrev pub is_element : Value → Bool
-is_element (V.Element e) = true
-is_element v = false
-
 abbrev pub is_no_element : Value → Type 0
 is_no_element v = is_element v ≡ false
-
--- no element is kept as a value
-abbrev pub HasNoElements : Map Value → Type 0
-HasNoElements ui = (x : Name) (v : Value) → look_up x ui ≡ Some v → is_element v ≡ false
 
 int_plain : (n : ℤ) → is_element (value_in (D.Int n)) ≡ false
 int_plain n = ap is_element (value_of-data_of (V.Int n))

@@ -1,6 +1,6 @@
 -- The whole notebook is determined cell by cell: each cell has the outcome that it has where its parents have ended as they end in the
 -- whole, from bindings that have the names which it references as the whole has them.
-use Rattle.std.proofs.Common.{◌≡◌, ◌∙◌, refl, sym, ap, subst, ℕ, zero, suc, ◌<◌, Bool, true, false, cond, ◌&&◌, ◌||◌, ◌==◌, List, [], ◌∷◌, ◌++◌, length, map, find, Option, Some, None, slice_get, ⊎_elim, append_assoc, append-nil, length-append, ◌+◌, arith}
+use Rattle.std.proofs.Common.{◌≡◌, ◌∙◌, refl, sym, ap, subst, ℕ, zero, suc, ◌<◌, Bool, true, false, cond, ◌&&◌, ◌||◌, ◌==◌, List, [], ◌∷◌, ◌++◌, length, map, Option, Some, None, slice_get, ⊎_elim, append_assoc, append-nil, length-append, ◌+◌, arith}
 use Rattle.std.specs.List.{list_all}
 use Rattle.std.proofs.lemmas.Bool.{cases_Bool, eq-eqb, eqb-true, and_left, or_cases, or_from, or_parts, both_ways}
 use Rattle.std.proofs.lemmas.List.{length-map}
@@ -9,34 +9,27 @@ use Rattle.std.proofs.lemmas.Option.{slice_get_within}
 use Rattle.py_tree.specs.Names.{Name, is_among}
 use Rattle.py_tree.specs.Scope.{defs, refs}
 use Rattle.py_tree.specs.Trees.{Cell}
-use Rattle.py_value.specs.Maps.{Map, look_up}
+use Rattle.py_value.specs.Maps.{Map, look_up, IsSortedMap}
 use Rattle.py_value.specs.declared.types.Value.{Value}
-use Rattle.py_value.proofs.SortedMaps.{IsSortedMap, same_maps}
+use Rattle.py_value.proofs.SortedMaps.{same_maps}
 use Rattle.notebook_meaning.specs.declared.frames.CellFrame.{CellFrame}
 use Rattle.notebook_meaning.specs.Graph.{names_at, defs_of, refs_of, edge, all_cells, is_in, parents, order, NoneDoubled, NoneCyclic}
 use Rattle.notebook_meaning.specs.Meaning.{Env}
+use Rattle.notebook_meaning.specs.Underway.{HasNoLocals, defined_in, ended, frame_at}
 use Rattle.notebook_meaning.specs.Whole.{Outcome, Progress, outcome_of, ended_ok, is_ok, with_outcome, with_code, with_cell, with_cells, whole}
-use Rattle.notebook_meaning.proofs.InOrder.{ComesInOrder, EachOnce, all_agree, comes_once, defined_in, defines_edge, defs_settled, is_last, order_comes, ready_unlisted, refs_settled, some_at}
+use Rattle.notebook_meaning.proofs.InOrder.{ComesInOrder, EachOnce, all_agree, comes_once, defines_edge, defs_settled, is_last, order_comes, ready_unlisted, refs_settled, some_at}
 use Rattle.notebook_meaning.proofs.Orders.{free_is_listed, in_more_cases, parent_listed}
-use Rattle.notebook_meaning.proofs.Outcomes.{HasNoLocals, outcome_cell, outcome_settles}
+use Rattle.notebook_meaning.proofs.Outcomes.{outcome_cell, outcome_settles}
 
 -- the cells that have these frames
 abbrev pub cells_of : List CellFrame → List ℕ
 cells_of frames = map (λ (f : CellFrame). f.cell) frames
 
--- the frame of a cell, and its cost
-abbrev pub frame_at : List CellFrame → ℕ → Option CellFrame
-frame_at frames c = find (λ (f : CellFrame). f.cell == c) frames
-
+-- the cost of a cell
 abbrev pub cost_at : List CellFrame → List ℕ → ℕ → Option ℕ
 cost_at [] costs c = None
 cost_at (f ∷ frames) [] c = None
 cost_at (f ∷ frames) (n ∷ costs) c = cond (f.cell == c) (Some n) (cost_at frames costs c)
-
--- the newest frame of a cell says that it has ended ok
-abbrev pub ended : Option CellFrame → Bool
-ended None = false
-ended (Some f) = is_ok f.status
 
 -- ---- one cell
 

@@ -1,5 +1,5 @@
--- Cells that run one after the other towards a whole: where they stand, and the next one.
-use Rattle.std.proofs.Common.{◌≡◌, ◌∙◌, refl, sym, ap, subst, ℕ, ◌<◌, Bool, true, false, ◌==◌, List, [], ◌∷◌, length, Option, Some, slice_get, ⊎_elim}
+-- Cells that run one after the other towards a whole: what the next one does to where they stand.
+use Rattle.std.proofs.Common.{◌≡◌, ◌∙◌, refl, sym, ap, subst, ℕ, Bool, true, false, ◌==◌, List, [], ◌∷◌, Option, Some, slice_get, ⊎_elim}
 use Rattle.std.specs.List.{list_all}
 use Rattle.std.proofs.lemmas.Bool.{cases_Bool, or_from, both_ways, eqb-true}
 use Rattle.py_tree.specs.Scope.{defs}
@@ -10,12 +10,13 @@ use Rattle.notebook_meaning.specs.Answer.{results_of}
 use Rattle.notebook_meaning.specs.Graph.{all_cells, edge, is_in, parents, order, NoneDoubled, NoneCyclic}
 use Rattle.notebook_meaning.specs.Meaning.{Env}
 use Rattle.notebook_meaning.specs.Thin.{are_thin, elements_of}
+use Rattle.notebook_meaning.specs.Underway.{Going, ended, frame_at, outcome_now}
 use Rattle.notebook_meaning.specs.Whole.{Outcome, Progress, outcome_of, ended_ok, whole}
 use Rattle.notebook_meaning.specs.declared.frames.CellFrame.{CellFrame}
 use Rattle.notebook_meaning.specs.declared.frames.Frame.TheVariants as frame
-use Rattle.notebook_meaning.proofs.FixedPoint.{ended, ended_newest, frame_at, ran_so, whole_only}
+use Rattle.notebook_meaning.proofs.FixedPoint.{ended_newest, ran_so, whole_only}
 use Rattle.notebook_meaning.proofs.InOrder.{all_agree}
-use Rattle.notebook_meaning.proofs.OneByOne.{IsBut, ParentsFirst, Reaches, SameOutcome, like_referenced, order_first, reaches}
+use Rattle.notebook_meaning.proofs.OneByOne.{Reaches, SameOutcome, like_referenced, order_first, reaches}
 use Rattle.notebook_meaning.proofs.Orders.{free_is_listed, from_cell}
 use Rattle.notebook_meaning.proofs.ResultsOf.{once_framed, one_result}
 use Rattle.notebook_meaning.proofs.ThinCells.{thin_cell, thin_same}
@@ -26,23 +27,12 @@ pub record Runs (nb : List Cell) : Type 0 where
   pub once : NoneDoubled nb
   pub free : NoneCyclic nb
 
--- what a cell does from these bindings, where the newest frame of each cell says whether it has ended ok
-abbrev pub outcome_now : List Cell → ℕ → Map Value → Env → (ℕ → Option CellFrame) → ℕ → Cell → Outcome
-outcome_now nb budget ui env newest c code = outcome_of budget ui (list_all (λ a. ended (newest a)) (parents nb c)) c env code
-
 module _ (nb : List Cell) (budget : ℕ) (ui : Map Value) where
   abbrev goal : Progress
   goal = whole nb budget ui
 
-  -- Where cells stand that run one after the other, with these left: the bindings are those of the whole, but at names that the cells
-  -- define which are left, and each other cell has as its newest frame the one that it has in the whole.
-  pub record Going (left : List ℕ) (env : Env) (newest : ℕ → Option CellFrame) : Type 0 where
-    pub first : ParentsFirst nb left
-    pub but : IsBut nb left env (whole nb budget ui).env
-    pub newest_is : (a : ℕ) → a < length nb → is_in a left ≡ false → newest a ≡ frame_at (whole nb budget ui).frames a
-
   -- The next cell has the result and the cost that it has in the whole, and the bindings after it are on their way.
-  next_reaches : Runs nb → (left : List ℕ) (env : Env) (newest : ℕ → Option CellFrame) (c : ℕ) (code : Cell) → Going (c ∷ left) env newest
+  next_reaches : Runs nb → (left : List ℕ) (env : Env) (newest : ℕ → Option CellFrame) (c : ℕ) (code : Cell) → Going nb budget ui (c ∷ left) env newest
       → slice_get nb c ≡ Some code → Reaches nb (whole nb budget ui) c left (outcome_now nb budget ui env newest c code)
   next_reaches runs left env newest c code g e =
       let ok : ℕ → Bool = λ a. ended (newest a) in
@@ -58,7 +48,7 @@ module _ (nb : List Cell) (budget : ℕ) (ui : Map Value) where
       (record { frame = same.frame; cost = same.cost; defined = same.defined }))
 
   -- so this is its result
-  pub next_result : {left : List ℕ} {env : Env} {newest : ℕ → Option CellFrame} {c : ℕ} {code : Cell} → Runs nb → Going (c ∷ left) env newest
+  pub next_result : {left : List ℕ} {env : Env} {newest : ℕ → Option CellFrame} {c : ℕ} {code : Cell} → Runs nb → Going nb budget ui (c ∷ left) env newest
       → slice_get nb c ≡ Some code
       → results_of nb budget ui (c ∷ [])
       ≡ record { frame = frame.Cell (outcome_now nb budget ui env newest c code).frame; cost = (outcome_now nb budget ui env newest c code).cost } ∷ []
@@ -68,10 +58,10 @@ module _ (nb : List Cell) (budget : ℕ) (ui : Map Value) where
       one_result nb budget ui c o.frame o.cost r.frame r.cost
 
   -- So it stands with one cell less, where this one has the new frame and the others have the frames that they had.
-  pub going_next : {left : List ℕ} {env : Env} {newest : ℕ → Option CellFrame} {c : ℕ} {code : Cell} → Runs nb → Going (c ∷ left) env newest
+  pub going_next : {left : List ℕ} {env : Env} {newest : ℕ → Option CellFrame} {c : ℕ} {code : Cell} → Runs nb → Going nb budget ui (c ∷ left) env newest
       → slice_get nb c ≡ Some code → (next : ℕ → Option CellFrame) → next c ≡ Some (outcome_now nb budget ui env newest c code).frame
       → ((a : ℕ) → (c == a) ≡ false → next a ≡ newest a)
-      → Going left (outcome_now nb budget ui env newest c code).env next
+      → Going nb budget ui left (outcome_now nb budget ui env newest c code).env next
   going_next {left = left} {env = env} {newest = newest} {c = c} {code = code} runs g e next here others =
       let r = next_reaches runs left env newest c code g e in
       record {
@@ -84,7 +74,7 @@ module _ (nb : List Cell) (budget : ℕ) (ui : Map Value) where
       }
 
   -- where all cells are to run, from nothing, whatever frames they had
-  pub going_opens : {newest : ℕ → Option CellFrame} → Runs nb → Going (order nb) [] newest
+  pub going_opens : {newest : ℕ → Option CellFrame} → Runs nb → Going nb budget ui (order nb) [] newest
   going_opens runs = record {
     first = order_first nb;
     but = record { same = λ x h. sym (whole_only nb budget ui x h); plain = λ x h. refl; sorted = tt };

@@ -23,10 +23,11 @@ use Rattle.notebook_meaning.specs.Meaning.{Env, Scene, Flow, call_of, element_at
 use Rattle.notebook_meaning.specs.Spending.{Spending, Got, Failed, Spent, runs}
 use Rattle.notebook_meaning.specs.Thin.{Elements, are_cells, are_lines, are_thin, head_sliders, is_cell, is_line, is_maker, is_plain, is_sum, is_target, is_whole, is_empty, line_count, makes_slider, sliders}
 use Rattle.notebook_meaning.specs.Thin as thin_form
+use Rattle.notebook_meaning.specs.Underway.{HasNoElements}
 use Rattle.notebook_meaning.specs.Whole.{ended_ok, env_after, is_ok, outcome_of, status_of, whole, without_defs}
 use Rattle.notebook_meaning.specs.declared.binding.Binding.{Binding}
 use Rattle.notebook_meaning.specs.declared.binding.Binding.TheVariants.{Plain}
-use Rattle.notebook_meaning.proofs.AtKept.{HasNoElements, IsTidy, whole_tidy}
+use Rattle.notebook_meaning.proofs.AtKept.{IsTidy, whole_tidy}
 use Rattle.notebook_meaning.proofs.FixedPoint.{code_there, defs_are, ran_so}
 use Rattle.notebook_meaning.proofs.Going.{Runs}
 use Rattle.notebook_meaning.proofs.InOrder.{definer_below}

@@ -10,6 +10,7 @@ use Rattle.py_tree.specs.Scope.{defs}
 use Rattle.py_tree.specs.Trees.{Cell}
 use Rattle.py_value.proofs.SortedMaps.{name_of}
 use Rattle.notebook_meaning.specs.Graph.{names_at, defs_of, refs_of, edge, all_cells, is_in, is_ready, next_cell, with_next, places, order, defined_before, NoneDoubled}
+use Rattle.notebook_meaning.specs.Underway.{defined_in}
 use Rattle.notebook_meaning.proofs.Orders.{in_more, parent_listed, next_found, is_cell_number}
 
 -- ---- tests of lists
@@ -53,10 +54,6 @@ all_agree keeps p q (c ∷ cs) h = ⊎_elim
     (cases_Bool (keeps c))
 
 -- ---- cells and their names
-
--- one of the cells defines the name
-abbrev pub defined_in : List Cell → List ℕ → Name → Bool
-defined_in nb cs x = list_any (λ a. is_among x (defs_of nb a)) cs
 
 pub definer_below : (nb : List Cell) (a : ℕ) (x : Name) → is_among x (defs_of nb a) ≡ true → a < length nb
 definer_below nb a x h = ⊎_elim

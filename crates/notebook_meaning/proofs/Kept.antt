@@ -4,9 +4,9 @@ use Rattle.std.proofs.lemmas.Bool.{or_parts}
 use Rattle.py_tree.specs.Names.{Name, is_among}
 use Rattle.py_tree.specs.Scope.{bound, head_binds}
 use Rattle.py_tree.specs.Trees.{Head, value, assign, import_mo, stmt, Stmts, end, then_comes}
-use Rattle.py_value.specs.Maps.{look_up, put}
+use Rattle.py_value.specs.Maps.{look_up, put, IsSortedMap}
 use Rattle.py_value.specs.declared.types.Value.{Value}
-use Rattle.py_value.proofs.SortedMaps.{IsSortedMap, look_up-put_other, sorted_put}
+use Rattle.py_value.proofs.SortedMaps.{look_up-put_other, sorted_put}
 use Rattle.notebook_meaning.specs.Meaning.{Scene, Env, Flow, value_of, right_of, bind, head_of, lines_of}
 use Rattle.notebook_meaning.specs.Spending.{Spending, Got, Failed, Spent, then_spend, pay, show, spend, runs}
 use Rattle.notebook_meaning.specs.Trace.{Trace, Gives, Faults, Charges, Prints, ◌>>=◌}

@@ -4,25 +4,21 @@ use Rattle.std.proofs.lemmas.Bool.{and_left, cases_Bool, false_from_ne_true, or_
 use Rattle.py_tree.specs.Names.{Name, is_among, is_local}
 use Rattle.py_tree.specs.Scope.{defs, refs}
 use Rattle.py_tree.specs.Trees.{Cell}
-use Rattle.py_value.specs.Maps.{Map, look_up}
+use Rattle.py_value.specs.Maps.{Map, look_up, IsSortedMap}
 use Rattle.py_value.specs.declared.types.Value.{Value}
-use Rattle.py_value.proofs.SortedMaps.{IsSortedMap, same_maps}
+use Rattle.py_value.proofs.SortedMaps.{same_maps}
 use Rattle.notebook_meaning.specs.declared.binding.Binding.{Binding}
 use Rattle.notebook_meaning.specs.declared.frames.CellFrame.{CellFrame}
 use Rattle.notebook_meaning.specs.Graph.{defs_of, refs_of, edge, is_in, order}
 use Rattle.notebook_meaning.specs.Meaning.{Env}
+use Rattle.notebook_meaning.specs.Underway.{IsBut, ParentsFirst, defined_in, frame_at}
 use Rattle.notebook_meaning.specs.Whole.{Outcome, Progress, outcome_of, ended_ok, is_ok, whole}
-use Rattle.notebook_meaning.proofs.InOrder.{ComesInOrder, comes_once, defined_in, defined_nowhere, defines_edge, is_in_filter, is_last, order_comes, some_at}
-use Rattle.notebook_meaning.proofs.FixedPoint.{RanSo, cost_at, defs_are, frame_at, outcome_in, references_agree, refs_are}
+use Rattle.notebook_meaning.proofs.InOrder.{ComesInOrder, comes_once, defined_nowhere, defines_edge, is_in_filter, is_last, order_comes, some_at}
+use Rattle.notebook_meaning.proofs.FixedPoint.{RanSo, cost_at, defs_are, outcome_in, references_agree, refs_are}
 use Rattle.notebook_meaning.proofs.Orders.{parent_listed}
-use Rattle.notebook_meaning.proofs.Outcomes.{HasNoLocals, outcome_settles}
+use Rattle.notebook_meaning.proofs.Outcomes.{outcome_settles}
 
 -- ---- cells without later parents
-
--- no parent of a cell is the cell itself or a later one, and each cell stands once
-abbrev pub ParentsFirst : List Cell → List ℕ → Type 0
-ParentsFirst nb [] = Unit {0}
-ParentsFirst nb (c ∷ cs) = ((a : ℕ) → edge nb a c ≡ true → is_in a (c ∷ cs) ≡ false) × (is_in c cs ≡ false) × ParentsFirst nb cs
 
 comes_first : (nb : List Cell) (done cs : List ℕ) → ComesInOrder nb done cs → ParentsFirst nb cs
 comes_first nb done [] comes = tt
@@ -35,7 +31,7 @@ comes_first nb done (c ∷ cs) comes = (
 not_kept : (t : ℕ → Bool) (a : ℕ) (cs : List ℕ) → is_in a cs ≡ false → is_in a (filter t cs) ≡ false
 not_kept t a cs off = is_in_filter t a cs ∙ and_left (is_in a cs) (t a) off
 
--- so are those that a test keeps
+-- parents are first among those cells that a test keeps
 pub first_filter : (nb : List Cell) (t : ℕ → Bool) (cs : List ℕ) → ParentsFirst nb cs → ParentsFirst nb (filter t cs)
 first_filter nb t [] h = tt
 first_filter nb t (c ∷ cs) h =
@@ -51,14 +47,7 @@ order_first nb = comes_first nb [] (order nb) (order_comes nb)
 
 -- ---- bindings on their way
 
--- Bindings that are those of the goal, but at names that the cells define which are left to run. None with a leading underscore is
--- bound, and they are in order.
-pub record IsBut (nb : List Cell) (left : List ℕ) (env goal : Env) : Type 0 where
-  pub same : (x : Name) → defined_in nb left x ≡ false → look_up x env ≡ look_up x goal
-  pub plain : HasNoLocals env
-  pub sorted : IsSortedMap env
-
--- where none is left, they are the goal
+-- bindings on their way with no cell left are the goal
 pub but_none : (nb : List Cell) (env goal : Env) → IsBut nb [] env goal → IsSortedMap goal → env ≡ goal
 but_none nb env goal but sorted = same_maps env goal but.sorted sorted (λ x. but.same x refl)
 

@@ -5,18 +5,15 @@ use Rattle.py_tree.specs.Elements.{elements}
 use Rattle.py_tree.specs.Names.{Name, is_among, is_local}
 use Rattle.py_tree.specs.Scope.{bound, defs}
 use Rattle.py_tree.specs.Trees.{Cell}
-use Rattle.py_value.specs.Maps.{Map, look_up, where_name}
+use Rattle.py_value.specs.Maps.{Map, look_up, where_name, IsSortedMap}
 use Rattle.py_value.specs.declared.types.Value.{Value}
-use Rattle.py_value.proofs.SortedMaps.{IsSortedMap, look_up-where_none, look_up-where_on, look_up-where_off, sorted_where_name}
+use Rattle.py_value.proofs.SortedMaps.{look_up-where_none, look_up-where_on, look_up-where_off, sorted_where_name}
 use Rattle.notebook_meaning.specs.Meaning.{Scene, Env, Flow}
 use Rattle.notebook_meaning.specs.Spending.{Spending, Got, Failed, Spent, runs}
+use Rattle.notebook_meaning.specs.Underway.{HasNoLocals}
 use Rattle.notebook_meaning.specs.Whole.{without_defs, env_after, outcome_of}
 use Rattle.notebook_meaning.proofs.Kept.{AllGot, ChangesOnly, run_changes}
 use Rattle.notebook_meaning.proofs.NamesOf.{not_bound}
-
--- no name with a leading underscore is bound
-abbrev pub HasNoLocals : Env → Type 0
-HasNoLocals env = (x : Name) → is_local x ≡ true → look_up x env ≡ None
 
 -- only these names change, none with a leading underscore is bound, and the bindings stay in order
 pub record Settles (names : List Name) (env after : Env) : Type 0 where

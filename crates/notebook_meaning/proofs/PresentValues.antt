@@ -22,17 +22,18 @@ use Rattle.notebook_meaning.specs.Answer.{State, Before, On, Message, Open, Set,
 use Rattle.notebook_meaning.specs.Graph.{elements_of, is_in}
 use Rattle.notebook_meaning.specs.Meaning.{Env}
 use Rattle.notebook_meaning.specs.Reruns.{rerun}
+use Rattle.notebook_meaning.specs.Underway.{HasNoElements}
 use Rattle.notebook_meaning.specs.Whole.{Progress, whole}
 use Rattle.notebook_meaning.specs.declared.binding.Binding.{Binding}
 use Rattle.notebook_meaning.specs.declared.binding.Binding.TheVariants.{Plain}
-use Rattle.notebook_meaning.proofs.AtKept.{HasNoElements, next_plain, none_kept}
+use Rattle.notebook_meaning.proofs.AtKept.{next_plain, none_kept}
 use Rattle.notebook_meaning.proofs.Coincidence.{SameBinding, same_bound, one_element}
 use Rattle.notebook_meaning.proofs.Going.{Runs}
 use Rattle.notebook_meaning.proofs.InBeing.{creator}
 use Rattle.notebook_meaning.proofs.InOrder.{definer_below}
 use Rattle.notebook_meaning.proofs.LookUps.{among_left, among_right}
 use Rattle.notebook_meaning.proofs.RerunSuffices.{AreTaken, elements_defined, unchanged}
-use Rattle.notebook_meaning.proofs.SettingValues.{AllSet, SameButPresent, no_element, all_set, laid_at, same_element, set_there, sets_passed, value_alike}
+use Rattle.notebook_meaning.proofs.SettingValues.{SameButPresent, no_element, all_set, laid_at, same_element, set_there, sets_passed, value_alike}
 use Rattle.notebook_meaning.proofs.SettingValues as setting
 use Rattle.py_value.proofs.Computes.{a_number}
 

@@ -11,33 +11,31 @@ use Rattle.py_tree.specs.Scope.{defs, refs}
 use Rattle.py_tree.specs.Trees.{Cell}
 use Rattle.py_value.specs.ElementData.{ElementData, with_present}
 use Rattle.py_value.specs.Elements.{at_kept}
-use Rattle.py_value.specs.Maps.{Map, look_up}
+use Rattle.py_value.specs.Maps.{Map, look_up, IsSortedMap}
 use Rattle.py_value.specs.View.{value_of}
 use Rattle.py_value.specs.declared.types.Data.{Data}
 use Rattle.py_value.specs.declared.types.Value.{Value}
 use Rattle.py_value.specs.declared.types.Value.TheVariants as V
 use Rattle.py_value.proofs.Levels.{data_of-value_of}
-use Rattle.py_value.proofs.SortedMaps.{IsSortedMap}
 use Rattle.notebook_meaning.specs.Answer.{named_so, names_of, next}
 use Rattle.notebook_meaning.specs.Graph.{names_at, defs_of, refs_of, elements_of, edge, is_in, parents, order}
-use Rattle.notebook_meaning.specs.LaidOver.{laid_over}
 use Rattle.notebook_meaning.specs.Reruns.{is_within, rerun}
 use Rattle.notebook_meaning.specs.Thin.{are_thin}
 use Rattle.notebook_meaning.specs.Thin as thin_form
+use Rattle.notebook_meaning.specs.Underway.{Going, HasNoElements, HasNoLocals, defined_in, frame_at}
 use Rattle.notebook_meaning.specs.Whole.{Outcome, Progress, outcome_of, ended_ok, whole}
 use Rattle.notebook_meaning.specs.declared.binding.Binding.{Binding}
 use Rattle.notebook_meaning.specs.declared.binding.Binding.TheVariants.{Plain}
 use Rattle.notebook_meaning.specs.declared.frames.CellFrame.{CellFrame}
-use Rattle.notebook_meaning.proofs.AtKept.{HasNoElements, next_plain, whole_at_kept}
+use Rattle.notebook_meaning.proofs.AtKept.{next_plain, whole_at_kept}
 use Rattle.notebook_meaning.proofs.Coincidence.{SameBinding, same_bound, one_element, one_binding}
-use Rattle.notebook_meaning.proofs.FixedPoint.{by_parents, cells_of, code_there, defs_are, frame_at, may_run_alike, outcome_in, ran_so, whole_frames, whole_only, whole_plain, whole_sorted}
-use Rattle.notebook_meaning.proofs.Going.{Going, Runs}
-use Rattle.notebook_meaning.proofs.InOrder.{any_at, any_name, defined_in, definer_below, one_definer, some_at}
+use Rattle.notebook_meaning.proofs.FixedPoint.{by_parents, cells_of, code_there, defs_are, may_run_alike, outcome_in, ran_so, whole_frames, whole_only, whole_plain, whole_sorted}
+use Rattle.notebook_meaning.proofs.Going.{Runs}
+use Rattle.notebook_meaning.proofs.InOrder.{any_at, any_name, definer_below, one_definer, some_at}
 use Rattle.notebook_meaning.proofs.OneByOne.{SameResult, cell_referenced, first_filter, order_first, related_defined, same_result}
 use Rattle.notebook_meaning.proofs.Orders.{free_is_listed, places_below}
-use Rattle.notebook_meaning.proofs.Outcomes.{HasNoLocals}
 use Rattle.notebook_meaning.proofs.Reaching.{is_kept, near_next, near_reader, passes}
-use Rattle.notebook_meaning.proofs.SettingValues.{AllSet, laid_at, laid_by, laid_is, laid_passed, next_kept, set_there, sets_passed, sorted_laid}
+use Rattle.notebook_meaning.proofs.SettingValues.{AllSet, laid_at, laid_by, laid_is, laid_over, laid_passed, next_kept, set_there, sets_passed, sorted_laid}
 use Rattle.notebook_meaning.proofs.ThinCells.{thin_but_present, thin_cell, thin_element}
 
 -- Values are set in a notebook that runs: no element is kept as a value, and each value that is set is admitted by its element.

@@ -8,11 +8,12 @@ use Rattle.py_value.specs.Maps.{Map}
 use Rattle.py_value.specs.declared.types.Value.{Value}
 use Rattle.notebook_meaning.specs.Answer.{Part, priced, results, results_of}
 use Rattle.notebook_meaning.specs.Graph.{is_in, order}
+use Rattle.notebook_meaning.specs.Underway.{frame_at}
 use Rattle.notebook_meaning.specs.Whole.{whole}
 use Rattle.notebook_meaning.specs.declared.frames.CellFrame.{CellFrame}
 use Rattle.notebook_meaning.specs.declared.frames.Frame.{Frame}
 use Rattle.notebook_meaning.specs.declared.frames.Frame.TheVariants as frame
-use Rattle.notebook_meaning.proofs.FixedPoint.{cells_of, frame_at, cost_at, whole_frames, whole_costs}
+use Rattle.notebook_meaning.proofs.FixedPoint.{cells_of, cost_at, whole_frames, whole_costs}
 use Rattle.notebook_meaning.proofs.InOrder.{EachOnce, is_in_filter, order_once}
 
 -- ---- lists of numbers

@@ -8,22 +8,27 @@ use Rattle.py_tree.specs.Names.{Name, is_among}
 use Rattle.py_tree.specs.Trees.{Cell}
 use Rattle.py_value.specs.ElementData.{ElementData, with_present}
 use Rattle.py_value.specs.Elements.{admitted, admitted_by}
-use Rattle.py_value.specs.Maps.{Map, look_up, put}
+use Rattle.py_value.specs.Maps.{Map, look_up, put, IsSortedMap}
 use Rattle.py_value.specs.View.{data_of, value_of}
 use Rattle.py_value.specs.declared.kinds.Kind.{Kind}
 use Rattle.py_value.specs.declared.kinds.Kind.TheVariants as kind
 use Rattle.py_value.specs.declared.types.Data.{Data}
 use Rattle.py_value.specs.declared.types.Value.{Value}
 use Rattle.py_value.specs.declared.types.Value.TheVariants as V
-use Rattle.py_value.proofs.SortedMaps.{IsSortedMap, look_up-put, look_up-put_other, look_up-where_on, name_of, sorted_put}
+use Rattle.py_value.proofs.SortedMaps.{look_up-put, look_up-put_other, look_up-where_on, name_of, sorted_put}
 use Rattle.notebook_meaning.specs.Answer.{element_in, named_so, names_of, next, value_set, with_sets, with_value}
 use Rattle.notebook_meaning.specs.Graph.{elements_of, is_in}
-use Rattle.notebook_meaning.specs.LaidOver.{laid_over, with_element}
 use Rattle.notebook_meaning.specs.Meaning.{Env}
 use Rattle.notebook_meaning.specs.Reruns.{rerun}
+use Rattle.notebook_meaning.specs.WithElement.{with_element}
 use Rattle.notebook_meaning.specs.declared.binding.Binding.{Binding}
 use Rattle.notebook_meaning.specs.declared.binding.Binding.TheVariants.{Plain}
 use Rattle.notebook_meaning.proofs.NamesOf.{among_append}
+
+-- the bindings with those values laid over that are set, one after the other, where their elements admit them
+abbrev pub laid_over : Map Value → Env → Env
+laid_over [] env = env
+laid_over (s ∷ sets) env = laid_over sets (with_element s.0 (element_in env s.0) (value_set env s) env)
 
 -- the bindings with values laid over that are set, as the elements of `before` admit them
 abbrev pub laid_by : Env → Map Value → Env → Env

@@ -6,18 +6,17 @@ use Rattle.py_tree.specs.Names.{Name}
 use Rattle.py_value.specs.Maps.{Map}
 use Rattle.py_value.specs.declared.types.Value.{Value}
 use Rattle.notebook_meaning.specs.Answer.{On, Set, answer, answer_by, counted, element_in, names_of, next, refused, results_of, value_set}
-use Rattle.notebook_meaning.specs.LaidOver.{laid_over}
 use Rattle.notebook_meaning.specs.Meaning.{Env}
 use Rattle.notebook_meaning.specs.Reruns.{rerun}
+use Rattle.notebook_meaning.specs.Underway.{Going, HasNoElements, frame_at}
 use Rattle.notebook_meaning.specs.Whole.{whole}
 use Rattle.notebook_meaning.specs.declared.frames.CellFrame.{CellFrame}
 use Rattle.notebook_meaning.specs.declared.frames.Frame.TheVariants as frame
-use Rattle.notebook_meaning.proofs.AtKept.{HasNoElements}
-use Rattle.notebook_meaning.proofs.FixedPoint.{frame_at, whole_sorted}
-use Rattle.notebook_meaning.proofs.Going.{Going, Runs}
+use Rattle.notebook_meaning.proofs.FixedPoint.{whole_sorted}
+use Rattle.notebook_meaning.proofs.Going.{Runs}
 use Rattle.notebook_meaning.proofs.OneByOne.{but_none}
 use Rattle.notebook_meaning.proofs.RerunSuffices.{AreTaken, going_again}
-use Rattle.notebook_meaning.proofs.SettingValues.{AllSet}
+use Rattle.notebook_meaning.proofs.SettingValues.{AllSet, laid_over}
 
 -- What is kept after the answer that left these present values: the bindings of the whole, and of each cell its frame in it.
 pub record Stands (nb : List Cell) (budget : ℕ) (ui : Map Value) (env : Env) (newest : ℕ → Option CellFrame) : Type 0 where

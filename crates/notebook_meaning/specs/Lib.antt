@@ -2,7 +2,6 @@ pub mod Answer
 pub mod Fails
 pub mod FrameText
 pub mod Graph
-pub mod LaidOver
 pub mod Meaning
 pub mod Messages
 pub mod Program
@@ -13,4 +12,6 @@ pub mod Scripts
 pub mod Spending
 pub mod Thin
 pub mod Trace
+pub mod Underway
 pub mod Whole
+pub mod WithElement

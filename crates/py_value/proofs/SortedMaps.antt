@@ -11,17 +11,7 @@ use Rattle.std.proofs.lemmas.Map.Lookups.{exact_bytes}
 use Rattle.std.proofs.lemmas.Map.Text.{is_eq-slice_cmp}
 use Rattle.std.proofs.lemmas.Option.{none-some, same_Some}
 use Rattle.std.proofs.lemmas.Slice.Eq.{bytes_eq-Decides}
-use Rattle.py_value.specs.Maps.{Map, look_up, put, put_by, where_name}
-
--- the name is less than the first one of the map
-abbrev pub IsBelow : {V : Type 0} → List ℕ → Map V → Type 0
-IsBelow x [] = Unit {0}
-IsBelow x (e ∷ es) = slice_cmp nat_cmp x e.0 ≡ Less
-
--- each name is less than the next one
-abbrev pub IsSortedMap : {V : Type 0} → Map V → Type 0
-IsSortedMap [] = Unit {0}
-IsSortedMap (e ∷ es) = IsBelow e.0 es × IsSortedMap es
+use Rattle.py_value.specs.Maps.{Map, look_up, put, put_by, where_name, IsBelow, IsSortedMap}
 
 -- ---- names that differ
 

@@ -1,5 +1,5 @@
 -- Finite maps from names: their entries, each name once, in the order of bytes.
-use Rattle.std.specs.Prelude.{ℕ, Bool, cond, List, [], ◌∷◌, Option, Some, None}
+use Rattle.std.specs.Prelude.{◌≡◌, ℕ, Bool, cond, List, [], ◌∷◌, Option, Some, None}
 use Rattle.std.specs.Str.{bytes_eq}
 use Rattle.std.specs.Cmp.Lexicographic.{slice_cmp}
 use Rattle.std.specs.Ordering.{nat_cmp}
@@ -28,3 +28,13 @@ put name v (e ∷ es) = put_by (slice_cmp nat_cmp name e.0) name v e es (put nam
 abbrev pub where_name : {V : Type 0} → (List ℕ → Bool) → Map V → Map V
 where_name p [] = []
 where_name p (e ∷ es) = cond (p e.0) (e ∷ where_name p es) (where_name p es)
+
+-- the name is less than the first one of the map
+abbrev pub IsBelow : {V : Type 0} → List ℕ → Map V → Type 0
+IsBelow x [] = Unit {0}
+IsBelow x (e ∷ es) = slice_cmp nat_cmp x e.0 ≡ Less
+
+-- each name is less than the next one
+abbrev pub IsSortedMap : {V : Type 0} → Map V → Type 0
+IsSortedMap [] = Unit {0}
+IsSortedMap (e ∷ es) = IsBelow e.0 es × IsSortedMap es
