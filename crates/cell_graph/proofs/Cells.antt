@@ -9,7 +9,7 @@ use Rattle.std.proofs.lemmas.List.{length-map, length_push, length-append}
 use Rattle.std.proofs.lemmas.Option.{slice_get-get_or, slice_get_past}
 use Rattle.std.proofs.lemmas.Slice.Eq.{bytes_eq-Decides}
 use Rattle.py_tree.specs.Names.{Name, is_among}
-use Rattle.py_tree.specs.Scope.{defs, refs}
+use Rattle.py_tree.specs.Scope.{defs}
 use Rattle.py_tree.specs.Trees.{Cell}
 use Rattle.notebook_meaning.specs.Graph.{names_at, defs_of, refs_of, numbers_from, all_cells, parents, order, defined_before, IsDoubled, NoneDoubled, AreCyclic}
 use Rattle.notebook_meaning.proofs.Orders.{short_is_cyclic}

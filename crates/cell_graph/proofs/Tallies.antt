@@ -1,16 +1,12 @@
 -- Counts in lists of cells.
 use Rattle.std.proofs.Common.{◌≡◌, ℕ, zero, suc, ◌+◌, ◌-◌, ◌<◌, ◌≤◌, Bool, true, false, cond, ◌&&◌, ◌||◌, ◌==◌, ⊎_elim, List, [], ◌∷◌, ◌++◌, length, get_or, set, get_or-set_same, get_or-set_other, take, refl, sym, ap, ◌∙◌, subst, arith}
 use Rattle.std.specs.Prelude.{nat_lt}
-use Rattle.std.proofs.lemmas.Bool.{both_ways, cases_eq, cases_lt, cases_order, eq-eqb, ne_eqb, lt-ltb, le-ltb, or_left, or_right, and_right, and_from, or_parts, or_from, false_from_ne_true}
+use Rattle.std.proofs.lemmas.Bool.{cases_eq, cases_lt, cases_order, eq-eqb, ne_eqb, lt-ltb, le-ltb, or_left, or_right, and_right, and_from, or_parts, or_from, false_from_ne_true}
 use Rattle.std.proofs.lemmas.List.{take_more}
 use Rattle.std.proofs.lemmas.List.Folds.{list_any-append}
-use Rattle.std.proofs.lemmas.List.Sums.{count_by_more_yes, count_by_more_no, sum_by-cons, sum_by-take-le, sum_by_push}
+use Rattle.std.proofs.lemmas.List.Sums.{count_by_more_yes, count_by_more_no, sum_by-cons, sum_by-take-le}
 use Rattle.notebook_meaning.specs.Graph.{is_in}
 use Rattle.cell_graph.specs.Counts.{list_in, count_of}
-
--- one cell more in a list
-pub count_push : (c d : ℕ) (cells : List ℕ) → count_of c (cells ++ d ∷ []) ≡ count_of c cells + cond (d == c) 1 0
-count_push c d cells = sum_by_push (λ x. cond (x == c) 1 0) cells d
 
 -- a cell is counted where it is in the list
 pub none_counted : (c : ℕ) (cells : List ℕ) → is_in c cells ≡ false → count_of c cells ≡ 0
@@ -28,24 +24,6 @@ not_counted c (d ∷ ds) none =
     (not_counted c ds (omega arith))
 
 -- ---- children
-
--- a child more in the list of p
-pub child_more : (below : List (List ℕ)) (p child : ℕ) → p < length below → (a d : ℕ)
-    → count_of d (list_in (set below p (list_in below p ++ child ∷ [])) a) ≡ count_of d (list_in below a) + cond (child == d) (cond (p == a) 1 0) 0
-child_more below p child lt a d = ⊎_elim
-    (λ same.
-    subst (λ (b : ℕ). count_of d (list_in (set below p (list_in below p ++ child ∷ [])) b) ≡ count_of d (list_in below b) + cond (child == d) (cond (p == b) 1 0) 0) same
-    (ap (count_of d) (get_or-set_same below p (list_in below p ++ child ∷ []) [] lt) ∙ count_push d child (list_in below p)
-    ∙ ap (λ b. count_of d (list_in below p) + cond (child == d) (cond b 1 0) 0) (sym (eq-eqb p p refl))))
-    (λ apart.
-    ap (count_of d) (get_or-set_other below p a (list_in below p ++ child ∷ []) [] (λ e. apart (sym e)))
-    ∙ nothing (child == d) (p == a) (ne_eqb p a apart) (count_of d (list_in below a)))
-    (cases_eq p a)
-  where
-    nothing : (b e : Bool) → e ≡ false → (n : ℕ) → n ≡ n + cond b (cond e 1 0) 0
-    nothing true true off n = absurd (both_ways true off refl)
-    nothing true false off n = omega arith
-    nothing false e off n = omega arith
 
 -- two parts of a count that is kept where a test passes
 pub parts_of : (b : Bool) (n m k : ℕ) → (n + cond b m 0) + cond b k 0 ≡ n + cond b (m + k) 0

@@ -8,7 +8,7 @@ use Rattle.line_parser.specs.Sliders.{Bounds, maker, slider, are_bounds}
 use Rattle.line_parser.specs.Sums.{numeral, value_of}
 use Rattle.notebook_meaning.specs.Thin as thin
 use Rattle.py_tree.specs.Elements.{is_mo, is_mo_ui}
-use Rattle.notebook_meaning.specs.Thin.{Elements, is_name, is_slider_name, is_term, is_maker, is_number_tree, makes_slider}
+use Rattle.notebook_meaning.specs.Thin.{Elements, is_name, is_term, is_maker, is_number_tree, makes_slider}
 use Rattle.py_tree.specs.Levels.{is_literal}
 use Rattle.py_tree.specs.Names.{Name}
 use Rattle.py_tree.specs.Numbers.{is_number, number_of}

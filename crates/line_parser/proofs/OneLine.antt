@@ -2,7 +2,7 @@
 use Rattle.std.proofs.Common.{◌≡◌, ℕ, Bool, true, false, not, cond, eqb, List, [], ◌∷◌, ◌++◌, Option, None, Some, IsTrue, refl, sym, ap, ◌∙◌, subst, arith}
 use Rattle.std.specs.Prelude.{codes, option_map}
 use Rattle.std.specs.List.{join_with_byte}
-use Rattle.std.proofs.lemmas.Bool.{and_parts, and_from, ltb-true, not_from_false, ne_eqb, false≢true}
+use Rattle.std.proofs.lemmas.Bool.{and_parts, and_from, ltb-true, not_from_false, ne_eqb}
 use Rattle.std.proofs.lemmas.List.{append_cancel_left}
 use Rattle.std.proofs.lemmas.List.Folds.{list_all-append}
 use Rattle.std.proofs.lemmas.Option.{same_Some}
@@ -13,7 +13,7 @@ use Rattle.line_parser.specs.Lines.{read_assigned, read_assignment, read_import,
 use Rattle.line_parser.specs.Sliders.{Bounds, slider, read_bounds}
 use Rattle.line_parser.specs.Sums.{numeral, value_of, read_value, read_term, read_more, read_sum}
 use Rattle.line_parser.specs.Words.{words, two_words, target, without_back}
-use Rattle.notebook_meaning.specs.Thin.{Elements, is_name, is_line, stands_alone, head_text, line_text, last_line}
+use Rattle.notebook_meaning.specs.Thin.{Elements, is_name, is_line, head_text, line_text, last_line}
 use Rattle.py_tree.specs.Numbers.{is_number}
 use Rattle.py_tree.specs.Trees.{Tree, name, sum, Head, value, assign}
 use Rattle.line_parser.proofs.Cuts.{is_word_byte, AreWords, list_all-weaker}
@@ -21,7 +21,6 @@ use Rattle.line_parser.proofs.LineFound.{two_found}
 use Rattle.line_parser.proofs.LineOnly.{line_only}
 use Rattle.line_parser.proofs.Options.{bind_ok, map_ok, cond_ok}
 use Rattle.line_parser.proofs.Spellings.{head_spellings, head_joined}
-use Rattle.line_parser.proofs.Targets.{target_found}
 use Rattle.line_parser.proofs.WordBytes.{line_words}
 
 none_some : {A : Type 0} {x : A} → None ≡ Some x → ⊥
@@ -140,31 +139,6 @@ unbroken_words (w ∷ v ∷ vs) h =
 
 pub line_unbroken : (es : Elements) (h : Head) → IsTrue (is_line es h) → IsTrue (is_unbroken (line_text h))
 line_unbroken es h e = subst (λ t. IsTrue (is_unbroken t)) (head_joined h) (unbroken_words (head_spellings h) (line_words es h e))
-
-first_same : {x y : List ℕ} {xs ys : List (List ℕ)} → x ∷ xs ≡ y ∷ ys → x ≡ y
-first_same e = cc
-
--- a text that begins with a space spells no line
-no_name : (es : Elements) (line : List (List ℕ)) (o : Option (List ℕ × List (List ℕ))) (h : Head) → target ([] ∷ line) ≡ o
-    → choose o (λ p. read_assignment es p.0 p.1) None ≡ Some h → ⊥
-no_name es line None h p e = absurd (cc)
-no_name es line (Some (x, rest)) h p e =
-    let words = target_found ([] ∷ line) x rest p in
-    let empty : [] ≡ x = first_same words.0 in
-    absurd (false≢true (ap is_name empty ∙ (cond_ok (is_name x) _ h e).0))
-
-spaced_no_line : (es : Elements) (text : List ℕ) (h : Head) → read_line es (32 ∷ text) ≡ Some h → ⊥
-unfolding without_back
-spaced_no_line es text h e = no_name es (words text) (target ([] ∷ words text)) h refl e
-
-empty_no_line : (es : Elements) → read_line es [] ≡ None
-unfolding without_back
-empty_no_line es = refl
-
-indented_by : (es : Elements) (text : List ℕ) (h : Head) → read_line es text ≡ Some h
-    → (b : ℕ) × (rest : List ℕ) × (text ≡ b ∷ rest) × (b ≡ 32 → ⊥)
-indented_by es [] h e = absurd (none_some (sym (empty_no_line es) ∙ e))
-indented_by es (b ∷ rest) h e = (b, rest, refl, λ same. spaced_no_line es rest h (subst (λ b. read_line es (b ∷ rest) ≡ Some h) same e))
 
 no_last : (es : Elements) → read_line es (codes "app.run()") ≡ None
 unfolding without_back

@@ -18,9 +18,6 @@ cond_none false x e = refl
 pub one_term : (es : Elements) (ws rest : List (List ℕ)) (word : List ℕ) (t : Tree) → ws ≡ word ∷ rest → Some t ≡ read_term es word → (1 ≡ terms t) × (read_sum es ws ≡ read_more es t rest)
 one_term es ws rest word t s e = (sym (term_found es word t (sym e)).one, ap (read_sum es) s ∙ ap (λ o. o >>= λ u. read_more es u rest) (sym e))
 
-pub no_term : (es : Elements) (ws rest : List (List ℕ)) (word : List ℕ) → ws ≡ word ∷ rest → None ≡ read_term es word → read_sum es ws ≡ None
-no_term es ws rest word s e = ap (read_sum es) s ∙ ap (λ o. o >>= λ u. read_more es u rest) (sym e)
-
 pub no_plus : (es : Elements) (t : Tree) (ws : List (List ℕ)) → 0 < length ws → None ≡ next_term ws → read_more es t ws ≡ None
 no_plus es t [] l e = absurd (omega arith)
 no_plus es t (mark ∷ []) l e = refl

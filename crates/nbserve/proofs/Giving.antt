@@ -159,10 +159,3 @@ given_part {label = label} {before = before} {v = v} {now = now} f next count_ne
     part_of_lines label (g.given ++ p ∷ []) next.coming v.coming before after (are_next v f g.given gives g.are)
     (subst (TookPart before after) (sym (lines_append label g.given (p ∷ [])))
     (took_part before now after (lines_of label g.given) (lines_of label (p ∷ [])) g.took (subst (TookPart now after) line part)))
-
--- all were given
-pub given_all : {label : List ℕ} {before : Option (List ℕ)} {v : Visit} {count_at : ℕ} {now : Option (List ℕ)} {w : Visit} {count : ℕ}
-    → IsGiven label before v count_at now w count → w.coming ≡ [] → Took before now (lines_of label v.coming) × (count ≡ count_at + cost_of_parts v.coming)
-given_all {label = label} {before = before} {v = v} {count_at = count_at} {now = now} {count = count} g over =
-    let all : g.given ≡ v.coming = sym (append-nil g.given) ∙ ap (λ ps. g.given ++ ps) (sym over) ∙ g.are in
-    (subst (λ ps. Took before now (lines_of label ps)) all g.took, g.counted ∙ ap (λ ps. count_at + cost_of_parts ps) all)

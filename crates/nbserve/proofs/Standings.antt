@@ -42,12 +42,6 @@ parts_counted nb budget ui (coming.Results cells taken) free below =
     length-append (flat_map (λ c. results_of nb budget ui (c ∷ [])) left) (at_no_cost (frame.Done (length (cells_of cells))) ∷ [])
     ∙ ap (λ n. n + 1) (one_each nb budget ui left (λ c on. free_is_listed nb free c (is_below (length nb) c left below on)) ∙ length-drop taken (cells_of cells))
 
--- where none is counted, nothing is to come
-pub nothing_counted : (rest : Coming) → count_of rest ≡ 0 → rest ≡ coming.Nothing
-nothing_counted coming.Nothing none = refl
-nothing_counted (coming.Refusal why) none = absurd (omega arith)
-nothing_counted (coming.Results cells taken) none = absurd (omega arith)
-
 -- where no part is to come, no cell is left
 none_left : (nb : List Cell) (budget : ℕ) (ui : Map Value) (rest : Coming) → parts_of nb budget ui rest ≡ [] → left_of rest ≡ []
 none_left nb budget ui coming.Nothing none = refl

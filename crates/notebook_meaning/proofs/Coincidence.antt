@@ -1,12 +1,12 @@
 -- The run of a cell depends on the bindings of the names that it reads, and on the present values of the elements that it creates.
-use Rattle.std.proofs.Common.{◌≡◌, ℕ, ◌-◌, Bool, true, false, cond, not, ◌||◌, ⊎_elim, if◌then◌else◌, nat_le, List, [], ◌∷◌, ◌++◌, Option, Some, None, Result, Ok, Err, refl, sym, ap, ◌∙◌, subst}
+use Rattle.std.proofs.Common.{◌≡◌, ℕ, ◌-◌, Bool, true, false, cond, not, ◌||◌, if◌then◌else◌, nat_le, List, [], ◌∷◌, ◌++◌, Option, Some, None, Result, Ok, Err, refl, sym, ap, ◌∙◌, subst}
 use Rattle.std.specs.Prelude.{codes, option_and_then}
 use Rattle.std.specs.Str.{bytes_eq}
 use Rattle.std.proofs.lemmas.Option.{none-some, cond_some}
-use Rattle.std.proofs.lemmas.Bool.{cases_Bool, both_ways, and_parts, or_cases, or_left, not-false, false_from_ne_true}
+use Rattle.std.proofs.lemmas.Bool.{both_ways, and_parts, or_left}
 use Rattle.py_tree.specs.Elements.{is_mo, is_mo_ui, ui_kind, created_by, head_elements, created, elements}
-use Rattle.py_tree.specs.Names.{Name, is_among, is_local, builtins}
-use Rattle.py_tree.specs.Scope.{reads, all_reads, head_binds, head_reads, bound, read_names, is_free, defs, refs}
+use Rattle.py_tree.specs.Names.{Name, is_among, is_local}
+use Rattle.py_tree.specs.Scope.{reads, all_reads, head_binds, head_reads, bound, read_names, defs}
 use Rattle.py_tree.specs.Trees.{Tree, literal, name, sum, attribute, call, Trees, none, more, Head, value, assign, import_mo, stmt, Stmts, end, then_comes, Cell}
 use Rattle.py_value.specs.ElementData.{ElementData}
 use Rattle.py_value.specs.Elements.{kind_called, at_kept}
@@ -25,8 +25,8 @@ use Rattle.notebook_meaning.specs.Whole.{shown, ran_frame, without_defs, env_aft
 use Rattle.notebook_meaning.specs.declared.binding.Binding.{Binding}
 use Rattle.notebook_meaning.specs.declared.binding.Binding.TheVariants.{Plain, Module}
 use Rattle.notebook_meaning.specs.declared.frames.Status.TheVariants as status
-use Rattle.py_value.proofs.SortedMaps.{look_up-put_other, look_up-where_name}
-use Rattle.notebook_meaning.proofs.LookUps.{Agree, agree_left, agree_right, among_first, among_left, among_right, put_related, put_both, one_of_two, other_name, where_related, bound_defs, read_refs}
+use Rattle.py_value.proofs.SortedMaps.{look_up-where_name}
+use Rattle.notebook_meaning.proofs.LookUps.{Agree, agree_left, agree_right, among_first, among_left, among_right, put_related, put_both, where_related}
 
 -- ---- traces and runs that are alike
 
@@ -303,13 +303,6 @@ outcome_kept E budget ui ui' false c env env' code k lasts e = record { frame = 
 
 -- ---- bindings that agree
 
--- The bindings agree as far as a cell can tell: at the names that it references, at names that begin with an underscore, and at
--- builtins.
-pub record AgreeFor (code : Cell) (env env' : Env) : Type 0 where
-  pub referenced : Agree (refs code) env env'
-  pub locals : (x : Name) → is_local x ≡ true → look_up x env ≡ look_up x env'
-  pub builtin : Agree builtins env env'
-
 -- a name after the definitions are removed
 pub without_both : (code : Cell) (env env' : Env) (x : Name) → (is_among x (defs code) ≡ false → look_up x env ≡ look_up x env')
     → look_up x (without_defs code env) ≡ look_up x (without_defs code env')
@@ -318,27 +311,6 @@ without_both code env env' x same =
       either : (b : Bool) → is_among x (defs code) ≡ b → cond (not b) (look_up x env) None ≡ cond (not b) (look_up x env') None
       either true is = refl
       either false is = same is
-
--- a name that a cell reads, and doesn't define
-agree_read : (code : Cell) (env env' : Env) → AgreeFor code env env' → (x : Name) → is_among x (read_names code.body) ≡ true
-    → is_among x (defs code) ≡ false → look_up x env ≡ look_up x env'
-agree_read code env env' agree x here undefined = ⊎_elim
-    (λ free. agree.referenced x (read_refs code x here free))
-    (λ captured. ⊎_elim
-    (λ own. ⊎_elim
-    (λ is_bound. ⊎_elim
-    (agree.locals x)
-    (λ plain. absurd (both_ways _ undefined (bound_defs code x is_bound plain)))
-    (cases_Bool (is_local x)))
-    (agree.locals x)
-    (or_cases (is_among x (bound code.body)) (is_local x) own))
-    (agree.builtin x)
-    (or_cases (is_among x (bound code.body) || is_local x) (is_among x builtins) (not-false _ captured)))
-    (cases_Bool (is_free (bound code.body) x))
-
-pub reads_agree : (code : Cell) (env env' : Env) → AgreeFor code env env'
-    → Agree (read_names code.body) (without_defs code env) (without_defs code env')
-reads_agree code env env' agree x here = without_both code env env' x (agree_read code env env' agree x here)
 
 -- the same at each name where two others are the same
 abbrev pub Follow : Env → Env → Env → Env → Type 0
@@ -353,15 +325,6 @@ follow_kept ui ui' env env' names binds makes agree same = record {
       put_both x y (Plain (V.Element (at_kept (look_up x ui) d))) m n (e y both)
       ∙ ap (λ o. look_up y (put x (Plain (V.Element (at_kept o d))) n)) (same x h);
 }
-
--- The run of a block is the same where the names that it reads are bound to the same, and its bindings are the same wherever they
--- were before.
-pub runs_follow : (own : List Name) (ui ui' : Map Value) (block : Stmts) (env env' : Env) (budget : ℕ) → Agree (read_names block) env env'
-    → Agree (created block) ui ui'
-    → SameRun (SameFlow (Follow env env')) (runs (scene own ui) env block budget) (runs (scene own ui') env' block budget)
-runs_follow own ui ui' block env env' budget agree same =
-    runs_same own ui ui' (Follow env env') block env env' budget
-    (follow_kept ui ui' env env' (read_names block) (bound block) (created block) agree same) (λ x both. both)
 
 -- what a cell leaves in two runs: the same result at the same cost, the same at each name that it defines, and at each other name
 -- where it was the same before
@@ -390,13 +353,6 @@ same_by_reads budget ui ui' may_run c env env' code agree same =
     (follow_kept ui ui' _ _ _ (bound code.body) _ agree same)
     (λ m n e x both. where_related (λ o p. o ≡ p) (λ y. not (is_local y)) x m n refl (e x both))
     (λ x both. both))
-
--- A cell does the same where the bindings agree as far as it can tell, and the present values at the elements that it creates.
-pub same_outcome : (budget : ℕ) (ui ui' : Map Value) (may_run : Bool) (c : ℕ) (env env' : Env) (code : Cell) → AgreeFor code env env'
-    → Agree (elements code) ui ui'
-    → AgreeAfter code env env' (outcome_of budget ui may_run c env code) (outcome_of budget ui' may_run c env' code)
-same_outcome budget ui ui' may_run c env env' code agree same =
-    same_by_reads budget ui ui' may_run c env env' code (reads_agree code env env' agree) same
 
 -- ---- present values
 
@@ -493,46 +449,3 @@ same_but_present budget ui ui' may_run c env env' code agree apart =
       defined = λ x h. both.env x (without_both code env env' x (λ absent. absurd (both_ways _ absent h)));
       others = λ x h. both.env x (without_both code env env' x (λ absent. h));
     }
-
--- ---- names that a cell leaves as they are
-
--- a relation of bindings with themselves: they have this at the name, which the lines don't bind
-left_kept : (ui : Map Value) (x : Name) (o : Option Binding) (names binds makes : List Name) → is_among x binds ≡ false
-    → IsKept ui ui (λ m n. (m ≡ n) × (look_up x m ≡ o)) names binds makes
-left_kept ui x o names binds makes absent = record {
-  looks = λ m n e y h. ap (look_up y) e.0;
-  puts = λ y b m n h e. (ap (put y b) e.0, look_up-put_other y x b m (other_name x y binds absent h) ∙ e.1);
-  elements = λ y d m n h b e. (ap (put y _) e.0, look_up-put_other y x _ m (other_name x y binds absent b) ∙ e.1);
-}
-
--- A name that a cell doesn't define, and that doesn't begin with an underscore, is bound to what it was.
-pub left_alone : (budget : ℕ) (ui : Map Value) (may_run : Bool) (c : ℕ) (env : Env) (code : Cell) (x : Name) → is_among x (defs code) ≡ false
-    → is_local x ≡ false → look_up x (outcome_of budget ui may_run c env code).env ≡ look_up x env
-left_alone budget ui may_run c env code x undefined plain =
-    let unbound : is_among x (bound code.body) ≡ false = false_from_ne_true _ (λ h. both_ways _ undefined (bound_defs code x h plain)) in
-    let from : look_up x (without_defs code env) ≡ look_up x env =
-    look_up-where_name (λ y. not (is_among y (defs code))) x env ∙ ap (λ b. cond (not b) (look_up x env) None) undefined in
-    let both = outcome_kept (λ m n. (m ≡ n) × (look_up x m ≡ look_up x env)) budget ui ui may_run c env env code
-    (left_kept ui x (look_up x env) (read_names code.body) (bound code.body) (elements code) unbound)
-    (λ m n e. (ap lasting e.0, look_up-where_name (λ y. not (is_local y)) x m ∙ ap (λ b. cond (not b) (look_up x m) None) plain ∙ e.1))
-    (refl, from) in
-    both.env.1
-
-no_local_after : (env : Env) (x : Name) (run : Spending Flow) → is_local x ≡ true → look_up x env ≡ None → look_up x (env_after env run) ≡ None
-no_local_after env x (Got flow left console) is absent =
-    look_up-where_name (λ y. not (is_local y)) x flow.env ∙ ap (λ b. cond (not b) (look_up x flow.env) None) is
-no_local_after env x (Failed kind line left console) is absent = absent
-no_local_after env x (Spent line left console) is absent = absent
-
-absent_without : (code : Cell) (env : Env) (x : Name) → look_up x env ≡ None → look_up x (without_defs code env) ≡ None
-absent_without code env x absent =
-    look_up-where_name (λ y. not (is_among y (defs code))) x env ∙ ap (λ o. cond (not (is_among x (defs code))) o None) absent
-    ∙ one_of_two (not (is_among x (defs code))) None
-
--- No name that begins with an underscore is bound after a cell where none was before.
-pub no_local : (budget : ℕ) (ui : Map Value) (may_run : Bool) (c : ℕ) (env : Env) (code : Cell) (x : Name) → is_local x ≡ true
-    → look_up x env ≡ None → look_up x (outcome_of budget ui may_run c env code).env ≡ None
-no_local budget ui true c env code x is absent =
-    no_local_after (without_defs code env) x
-    (runs (record { own = elements code; present = ui }) (without_defs code env) code.body budget) is (absent_without code env x absent)
-no_local budget ui false c env code x is absent = absent_without code env x absent

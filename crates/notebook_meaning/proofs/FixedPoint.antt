@@ -11,7 +11,6 @@ use Rattle.py_tree.specs.Scope.{defs, refs}
 use Rattle.py_tree.specs.Trees.{Cell}
 use Rattle.py_value.specs.Maps.{Map, look_up, IsSortedMap}
 use Rattle.py_value.specs.declared.types.Value.{Value}
-use Rattle.py_value.proofs.SortedMaps.{same_maps}
 use Rattle.notebook_meaning.specs.declared.frames.CellFrame.{CellFrame}
 use Rattle.notebook_meaning.specs.Graph.{names_at, defs_of, refs_of, edge, all_cells, is_in, parents, order, NoneDoubled, NoneCyclic}
 use Rattle.notebook_meaning.specs.Meaning.{Env}
@@ -313,11 +312,6 @@ whole_plain nb budget ui = (whole_adds nb budget ui).plain
 
 pub whole_sorted : (nb : List Cell) (budget : ℕ) (ui : Map Value) → IsSortedMap (whole nb budget ui).env
 whole_sorted nb budget ui = (whole_adds nb budget ui).sorted tt
-
--- bindings in order that have the same at each name are those of the whole
-pub whole_env : (nb : List Cell) (budget : ℕ) (ui : Map Value) (env : Env) → IsSortedMap env
-    → ((x : Name) → look_up x env ≡ look_up x (whole nb budget ui).env) → env ≡ (whole nb budget ui).env
-whole_env nb budget ui env sorted same = same_maps env (whole nb budget ui).env sorted (whole_sorted nb budget ui) same
 
 -- ---- two wholes
 

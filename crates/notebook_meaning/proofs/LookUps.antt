@@ -58,10 +58,6 @@ put_related R x y v w m n here else = ⊎_elim
 pub put_both : {V : Type 0} (x y : Name) (v : V) (m n : Map V) → look_up y m ≡ look_up y n → look_up y (put x v m) ≡ look_up y (put x v n)
 put_both x y v m n h = put_related (λ o p. o ≡ p) x y v v m n (λ _. refl) h
 
-pub one_of_two : {A : Type 0} (b : Bool) (a : A) → cond b a a ≡ a
-one_of_two true a = refl
-one_of_two false a = refl
-
 pub where_related : {V : Type 0} (R : Option V → Option V → Type 0) (p : Name → Bool) (x : Name) (m n : Map V) → R None None
     → R (look_up x m) (look_up x n) → R (look_up x (where_name p m)) (look_up x (where_name p n))
 where_related R p x m n none h =

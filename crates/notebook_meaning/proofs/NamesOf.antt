@@ -2,10 +2,10 @@
 use Rattle.std.proofs.Common.{◌≡◌, ◌∙◌, refl, sym, ap, subst, Bool, true, false, cond, not, ◌&&◌, ◌||◌, List, [], ◌∷◌, ◌++◌}
 use Rattle.std.specs.Prelude.{filter}
 use Rattle.std.specs.Str.{bytes_eq}
-use Rattle.std.proofs.lemmas.Bool.{both_ways, not-true, or_parts, and_parts}
+use Rattle.std.proofs.lemmas.Bool.{both_ways, or_parts}
 use Rattle.std.proofs.lemmas.List.Folds.{list_any-append}
 use Rattle.py_value.proofs.SortedMaps.{name_of}
-use Rattle.py_tree.specs.Names.{Name, is_among, first_seen, first_seen_after, is_local, builtins}
+use Rattle.py_tree.specs.Names.{Name, is_among, first_seen, first_seen_after, is_local}
 use Rattle.py_tree.specs.Scope.{defs, refs, bound, read_names, is_free}
 use Rattle.py_tree.specs.Trees.{Cell}
 
@@ -84,18 +84,6 @@ not_bound x c h plain = by (is_among x (bound c.body)) (is_local x) plain (sym (
     by true b p e = absurd (both_ways (not b) e (ap not p))
     by false b p e = refl
 
--- what a cell defines has no leading underscore
-pub defs_plain : (x : Name) (c : Cell) → is_among x (defs c) ≡ true → is_local x ≡ false
-defs_plain x c h = not-true (is_local x) (and_parts (is_among x (bound c.body)) (not (is_local x)) (sym (among_defs x c) ∙ h)).1
-
 -- what a cell references is read there and free
 pub among_refs : (x : Name) (c : Cell) → is_among x (refs c) ≡ (is_among x (read_names c.body) && is_free (bound c.body) x)
 among_refs x c = among_first_seen x (filter (is_free (bound c.body)) (read_names c.body)) ∙ among_filter (is_free (bound c.body)) x (read_names c.body)
-
--- a cell doesn't define what it references
-pub refs_not_defs : (x : Name) (c : Cell) → is_among x (refs c) ≡ true → is_among x (defs c) ≡ false
-refs_not_defs x c h =
-    let free = (and_parts (is_among x (read_names c.body)) (is_free (bound c.body) x) (sym (among_refs x c) ∙ h)).1 in
-    let none = or_parts (is_among x (bound c.body) || is_local x) (is_among x builtins) (not-true _ free) in
-    let apart = (or_parts (is_among x (bound c.body)) (is_local x) none.0).0 in
-    among_defs x c ∙ ap (λ b. b && not (is_local x)) apart

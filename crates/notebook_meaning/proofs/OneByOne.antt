@@ -1,7 +1,7 @@
 -- Cells that run one by one: with each of them the bindings come closer to those of the whole.
 use Rattle.std.proofs.Common.{◌≡◌, ◌∙◌, refl, sym, ap, subst₂, ℕ, Bool, true, false, ◌==◌, List, [], ◌∷◌, ◌++◌, Option, Some, filter, cond, slice_get, ⊎_elim}
 use Rattle.std.proofs.lemmas.Bool.{and_left, cases_Bool, false_from_ne_true, or_from, or_parts, both_ways}
-use Rattle.py_tree.specs.Names.{Name, is_among, is_local}
+use Rattle.py_tree.specs.Names.{Name, is_among}
 use Rattle.py_tree.specs.Scope.{defs, refs}
 use Rattle.py_tree.specs.Trees.{Cell}
 use Rattle.py_value.specs.Maps.{Map, look_up, IsSortedMap}
@@ -13,7 +13,7 @@ use Rattle.notebook_meaning.specs.Graph.{defs_of, refs_of, edge, is_in, order}
 use Rattle.notebook_meaning.specs.Meaning.{Env}
 use Rattle.notebook_meaning.specs.Underway.{IsBut, ParentsFirst, defined_in, frame_at}
 use Rattle.notebook_meaning.specs.Whole.{Outcome, Progress, outcome_of, ended_ok, is_ok, whole}
-use Rattle.notebook_meaning.proofs.InOrder.{ComesInOrder, comes_once, defined_nowhere, defines_edge, is_in_filter, is_last, order_comes, some_at}
+use Rattle.notebook_meaning.proofs.InOrder.{ComesInOrder, comes_once, defines_edge, is_in_filter, is_last, order_comes, some_at}
 use Rattle.notebook_meaning.proofs.FixedPoint.{RanSo, cost_at, defs_are, outcome_in, references_agree, refs_are}
 use Rattle.notebook_meaning.proofs.Orders.{parent_listed}
 use Rattle.notebook_meaning.proofs.Outcomes.{outcome_settles}
@@ -86,17 +86,6 @@ pub like_referenced : (nb : List Cell) (budget : ℕ) (ui : Map Value) (cells le
 like_referenced nb budget ui cells left q c code env e r first but x read =
     but_reads nb c left env q.env x first but (refs_are nb c code x e ∙ read) ∙ sym (r.referenced x read)
 
--- so they are at each name with a leading underscore, and at each that no cell defines
-pub like_local : (nb : List Cell) (budget : ℕ) (ui : Map Value) (cells left : List ℕ) (q : Progress) (c : ℕ) (code : Cell) (env : Env)
-    → (r : RanSo nb budget ui cells q c code) → IsBut nb left env q.env → (x : Name) → is_local x ≡ true → look_up x env ≡ look_up x r.env
-like_local nb budget ui cells left q c code env r but x local = but.plain x local ∙ sym (r.plain x local)
-
-pub like_undefined : (nb : List Cell) (budget : ℕ) (ui : Map Value) (cells left : List ℕ) (q : Progress) (c : ℕ) (code : Cell) (env : Env)
-    → (r : RanSo nb budget ui cells q c code) → IsBut nb left env q.env → (x : Name) → ((a : ℕ) → is_among x (defs_of nb a) ≡ false)
-    → look_up x env ≡ look_up x r.env
-like_undefined nb budget ui cells left q c code env r but x none =
-    but.same x (defined_nowhere nb left x none) ∙ sym (r.kept x (defined_nowhere nb (c ∷ r.after) x none))
-
 -- two outcomes have the same result and the same cost, and the same at these names
 pub record SameOutcome (names : List Name) (o p : Outcome) : Type 0 where
   pub frame : o.frame ≡ p.frame
@@ -155,13 +144,3 @@ pub cell_referenced : (nb : List Cell) (budget : ℕ) (ui other : Map Value) (c 
     → (x : Name) → is_among x (refs code) ≡ true → look_up x r.env ≡ look_up x s.env
 cell_referenced nb budget ui other c code e r s agree x read =
     r.referenced x read ∙ references_agree nb budget ui other c agree x (refs_are nb c code x e ∙ read) ∙ sym (s.referenced x read)
-
-pub cell_local : (nb : List Cell) (budget : ℕ) (ui other : Map Value) (cells : List ℕ) (p q : Progress) (c : ℕ) (code : Cell)
-    → (r : RanSo nb budget ui cells p c code) (s : RanSo nb budget other cells q c code) → (x : Name) → is_local x ≡ true → look_up x r.env ≡ look_up x s.env
-cell_local nb budget ui other cells p q c code r s x local = r.plain x local ∙ sym (s.plain x local)
-
-pub cell_undefined : (nb : List Cell) (budget : ℕ) (ui other : Map Value) (cells : List ℕ) (p q : Progress) (c : ℕ) (code : Cell)
-    → (r : RanSo nb budget ui cells p c code) (s : RanSo nb budget other cells q c code) → (x : Name) → ((a : ℕ) → is_among x (defs_of nb a) ≡ false)
-    → look_up x r.env ≡ look_up x s.env
-cell_undefined nb budget ui other cells p q c code r s x none =
-    r.only x (defined_nowhere nb r.before x none) ∙ sym (s.only x (defined_nowhere nb s.before x none))

@@ -219,6 +219,3 @@ module _ (nb : List Cell) (budget : ℕ) (ui : Map Value) where
   -- the costs of all results, and their frames, are those of the whole
   pub all_costs : sum_by (λ (p : Part). p.cost) (results nb budget ui) ≡ sum (whole nb budget ui).costs
   all_costs = costs_in (whole nb budget ui).frames (whole nb budget ui).costs (whole_costs nb budget ui)
-
-  pub all_frames : map (λ (p : Part). p.frame) (results nb budget ui) ≡ map frame.Cell (whole nb budget ui).frames
-  all_frames = frames_are (whole nb budget ui).frames (whole nb budget ui).costs (whole_costs nb budget ui)

@@ -232,9 +232,3 @@ like_by before [] env like = like
 like_by before (s ∷ sets) env like =
     like_by before sets (with_element s.0 (element_in before s.0) (value_set before s) env)
     (like_laid before env s.0 (element_in before s.0) (value_set before s) refl like)
-
-pub laid_like : (sets : Map Value) (env : Env) → IsLike env (laid_over sets env)
-laid_like sets env = subst (IsLike env) (sym (laid_is sets env)) (like_by env sets env (λ x. same_element (element_in env x)))
-
-pub laid_value : (sets : Map Value) (env : Env) (s : Name × Value) → value_set (laid_over sets env) s ≡ value_set env s
-laid_value sets env s = like_value env (laid_over sets env) s (laid_like sets env)

@@ -57,16 +57,6 @@ module _ {nb : List Cell} {budget : ℕ} {ui : Map Value} {env : Env} {newest : 
       (λ k i. answer_by nb budget old ui sets (k i) (find (λ (s : Name × Value). is_none (value_set old s)) sets))
       h
 
-  -- where all are, and an element doesn't admit its value, it is this one
-  pub no_value : (s : Name × Value) → find (λ (s : Name × Value). is_none (element_in env s.0)) sets ≡ None
-      → find (λ (s : Name × Value). is_none (value_set env s)) sets ≡ Some s
-      → answer nb budget (On ui) (Set sets) ≡ refused (On ui) (frame.NoValue s.0)
-  no_value s there unfit =
-      subst (λ e. find (λ (s : Name × Value). is_none (element_in e s.0)) sets ≡ None
-      → find (λ (s : Name × Value). is_none (value_set e s)) sets ≡ Some s
-      → answer nb budget (On ui) (Set sets) ≡ refused (On ui) (frame.NoValue s.0)) (sym at.env_is)
-      (λ k l i. answer_by nb budget old ui sets (k i) (l i)) there unfit
-
   -- where each element admits its value, it is this one: the results of the cells that run again, with the next present values
   pub answered : find (λ (s : Name × Value). is_none (element_in env s.0)) sets ≡ None
       → find (λ (s : Name × Value). is_none (value_set env s)) sets ≡ None

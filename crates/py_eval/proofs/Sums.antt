@@ -11,7 +11,7 @@ use Rattle.py_tree.specs.Levels.{is_levelled, are_levelled_trees, level}
 use Rattle.py_tree.specs.Names.{Name}
 use Rattle.py_tree.specs.Trees.{Tree, Trees, more, name, sum, attribute, call}
 use Rattle.py_tree.specs.View.{view, views, view_step}
-use Rattle.py_eval.proofs.Conjunctions.{and_left, and_right}
+use Rattle.py_eval.proofs.Conjunctions.{and_right}
 
 view_sum : (a b : Expr) → view (Sum a b) ≡ sum (view a) (view b)
 unfolding roll-Expr roll
@@ -61,8 +61,5 @@ pub place_tree : (es : List Expr) (i : ℕ) (e : Expr) → i < length es → e �
 place_tree es i e lt is = ap views (drop-cons es i e lt ∙ (λ j. sym is j ∷ drop (suc i) es) ∙ ap (λ n. e ∷ drop n es) (sym (add-one i)))
 
 module _ (ts rest : Trees) (t : Tree) (is : ts ≡ more t rest) where
-  pub first_tree : IsTrue (are_levelled_trees ts) → IsTrue (is_levelled t)
-  first_tree h = and_left (is_levelled t) (are_levelled_trees rest) (subst (λ ts. IsTrue (are_levelled_trees ts)) is h)
-
   pub rest_trees : IsTrue (are_levelled_trees ts) → IsTrue (are_levelled_trees rest)
   rest_trees h = and_right (is_levelled t) (are_levelled_trees rest) (subst (λ ts. IsTrue (are_levelled_trees ts)) is h)

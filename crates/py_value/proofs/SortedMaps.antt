@@ -117,9 +117,6 @@ sorted_put_by Less x v e es is s h = (is, s)
 sorted_put_by Equal x v e es is s h = s
 sorted_put_by Greater x v e es is s h = (below_put e.0 x v es (turned x e.0 Greater is) s.0, h)
 
-pub sorted_nil : (V : Type 0) → IsSortedMap {V = V} []
-sorted_nil V = tt
-
 pub sorted_put : {V : Type 0} (x : List ℕ) (v : V) (m : Map V) → IsSortedMap m → IsSortedMap (put x v m)
 sorted_put x v [] s = (tt, tt)
 sorted_put x v (e ∷ es) s = sorted_put_by (slice_cmp nat_cmp x e.0) x v e es refl s (sorted_put x v es s.1)
