@@ -6,29 +6,7 @@ ghost use Rattle.py_tree.specs.Scope as scope;
 
 use crate::name_set::has;
 use indexmap::IndexSet;
-
-// The builtins of the language.
-const BUILTINS: [&str; 19] = [
-    "abs",
-    "all",
-    "any",
-    "bool",
-    "dict",
-    "enumerate",
-    "int",
-    "len",
-    "list",
-    "max",
-    "min",
-    "print",
-    "range",
-    "repr",
-    "sorted",
-    "str",
-    "sum",
-    "tuple",
-    "zip",
-];
+use py_tree::is_builtin;
 
 // Whether the name begins with `_`.
 pub(crate) fn is_local(name: &str) -> bool
@@ -38,25 +16,6 @@ pub(crate) fn is_local(name: &str) -> bool
         [] => false,
         [first, ..] => *first == b'_',
     }
-}
-
-// Whether the name is one of the words.
-fn is_word(words: &[&str], name: &str) -> bool
-    ensures { result ≡ names.is_among name.now (texts words.now) }
-{
-    for word in words {
-        if *word == name {
-            return true;
-        }
-    }
-    false
-}
-
-// Whether the name is that of a builtin.
-fn is_builtin(name: &str) -> bool
-    ensures { result ≡ names.is_among name.now names.builtins }
-{
-    is_word(&BUILTINS, name)
 }
 
 // Whether a name that a cell reads is one that it takes from other cells.

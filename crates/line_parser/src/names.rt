@@ -5,65 +5,14 @@ ghost use Rattle.py_tree.specs.Names.{is_among};
 ghost use Rattle.notebook_meaning.specs.Thin as thin;
 ghost use Rattle.line_parser.specs.Plain.{is_name_byte};
 
-// The keywords, the names by which a file speaks of its notebook, and the builtins.
-const RESERVED: [&str; 57] = [
-    "False",
-    "None",
-    "True",
-    "and",
-    "as",
-    "break",
-    "continue",
-    "def",
-    "elif",
-    "else",
-    "for",
-    "if",
-    "import",
-    "in",
-    "is",
-    "not",
-    "or",
-    "pass",
-    "return",
-    "while",
-    "with",
-    "assert",
-    "async",
-    "await",
-    "class",
-    "del",
-    "except",
-    "finally",
-    "from",
-    "global",
-    "lambda",
-    "nonlocal",
-    "raise",
-    "try",
-    "yield",
-    "app",
-    "marimo",
-    "mo",
-    "abs",
-    "all",
-    "any",
-    "bool",
-    "dict",
-    "enumerate",
-    "int",
-    "len",
-    "list",
-    "max",
-    "min",
-    "print",
-    "range",
-    "repr",
-    "sorted",
-    "str",
-    "sum",
-    "tuple",
-    "zip",
+use py_tree::is_builtin;
+
+// The keywords, and the names by which a file speaks of its notebook.
+const KEYWORDS_AND_FILE_NAMES: [&str; 38] = [
+    "False", "None", "True", "and", "as", "break", "continue", "def", "elif", "else", "for", "if",
+    "import", "in", "is", "not", "or", "pass", "return", "while", "with", "assert", "async",
+    "await", "class", "del", "except", "finally", "from", "global", "lambda", "nonlocal", "raise",
+    "try", "yield", "app", "marimo", "mo",
 ];
 
 fn name_byte(byte: u8) -> bool
@@ -90,7 +39,7 @@ fn is_plain_name(word: &str) -> bool
 fn is_reserved(word: &str) -> bool
     ensures { result ≡ is_among word.now thin.reserved }
 {
-    RESERVED.contains(&word)
+    KEYWORDS_AND_FILE_NAMES.contains(&word) || is_builtin(word)
 }
 
 /// Whether the word is spelled as a name, and is none of the reserved words.

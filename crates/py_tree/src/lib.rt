@@ -1,6 +1,7 @@
 //! Tokens and trees of notebook code, and what they spell.
 #![tactic(auto)]
 
+mod builtins;
 mod element;
 mod lists;
 mod literal;
@@ -8,6 +9,7 @@ mod row;
 mod token;
 mod tree;
 
+pub use builtins::is_builtin;
 pub use element::ui_kind;
 pub use lists::{Spelling, Spellings};
 pub use literal::literal_int;
