@@ -3,23 +3,13 @@
 # notebook is refused, Python parses the cells, looks for a name of two cells with a dictionary and for one cycle with graphlib.
 # Usage: bench/once.sh [RUNS]. It prints, for each notebook, the median of the wall-clock times of nbserve and of Python in
 # seconds and their ratio; nbserve's time includes the start of its process, and Python's that of the interpreter.
-set -eu
-shopt -s inherit_errexit
-runs=${1:-9}
-top=$(cd "$(dirname "$0")/.." && pwd)
-work=$(mktemp -d)
-trap 'rm -rf "$work"' EXIT
+. "$(dirname "$0")/timing.sh"
 
 python3 - "$work" <<'PY'
 import sys
+from notebooks import notebook
 work = sys.argv[1]
 LINES, TERMS = 1000, 32
-
-def notebook(cells):
-    lines = ["import marimo", "app = marimo.App()"]
-    for cell in cells:
-        lines += ["@app.cell", "def _():"] + ["    " + line for line in cell]
-    return "\n".join(lines + ['if __name__ == "__main__":', "    app.run()"]) + "\n"
 
 def binding(name, *read):
     return f"{name} = " + " + ".join([*read] + ["1"] * (TERMS - len(read)))
@@ -58,22 +48,6 @@ for name, bodies in refused.items():
 PY
 
 "$top/nbserve" once "$work/one_cell.py" > /dev/null
-
-# The median of the times of a command that has to end with this status.
-median() {
-  local wanted=$1 times=()
-  shift
-  for _ in $(seq "$runs"); do
-    local start end
-    start=$(date +%s%N)
-    local status=0
-    "$@" > /dev/null 2>&1 || status=$?
-    end=$(date +%s%N)
-    [ "$status" -eq "$wanted" ]
-    times+=($((end - start)))
-  done
-  printf '%s\n' "${times[@]}" | sort -n | sed -n "$(((runs + 1) / 2))p"
-}
 
 printf '%-10s %10s %10s %8s\n' notebook nbserve python ratio
 for name in cells backwards one_cell cycle one_name; do

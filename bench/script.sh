@@ -8,23 +8,13 @@
 # - The microseconds of the answer to one set on notebooks of 100 and of 1,000 cells, where it reruns 3 cells and where all, and their
 #   ratio. It is the time of a script with sets less that of the opening alone, divided by the number of sets.
 # Both tables want that nbserve and Python write the same bytes.
-set -eu
-shopt -s inherit_errexit
-runs=${1:-9}
-top=$(cd "$(dirname "$0")/.." && pwd)
-work=$(mktemp -d)
-trap 'rm -rf "$work"' EXIT
+. "$(dirname "$0")/timing.sh"
 
 python3 - "$work" <<'PY'
 import sys
+from notebooks import notebook
 work = sys.argv[1]
 TOP = 9
-
-def notebook(cells):
-    lines = ["import marimo", "app = marimo.App()"]
-    for cell in cells:
-        lines += ["@app.cell", "def _():", "    " + cell]
-    return "\n".join(lines + ['if __name__ == "__main__":', "    app.run()"]) + "\n"
 
 # So many cells, by turns one that binds a name and one that shows it. Each name reads an earlier one, and the first is bound to `first`.
 def tree(name, first, count):
@@ -75,7 +65,7 @@ for count in (100, 1000):
         rest = count - 2 - reruns
         cells = ["import marimo as mo", f"s = mo.ui.slider(0, {TOP})", *tree("v", "s.value + 1", reruns), *tree("w", "1", rest)]
         again = list(range(2, 2 + reruns))
-        open(f"{work}/{shape}_{count}.py", "w").write(notebook(cells))
+        open(f"{work}/{shape}_{count}.py", "w").write(notebook([[cell] for cell in cells]))
         open(f"{work}/{shape}_{count}.plain.py", "w").write(f"cells = {cells!r}\nagain = {again!r}\n{PLAIN}")
 
 for sets in (0, 1000, 10000):
@@ -101,33 +91,20 @@ frames() {
   echo $(($(wc -l < "$work/ours") - 1))
 }
 
-# The median of the times of a command.
-median() {
-  local times=()
-  for _ in $(seq "$runs"); do
-    local start end
-    start=$(date +%s%N)
-    "$@" > /dev/null
-    end=$(date +%s%N)
-    times+=($((end - start)))
-  done
-  printf '%s\n' "${times[@]}" | sort -n | sed -n "$(((runs + 1) / 2))p"
-}
-
 # The nanoseconds of the answer to one set, from a script with so many.
 cost() {
   local opening whole
   frames "$1" "$2" > /dev/null
-  opening=$(median run_ours "$1" 0)
-  whole=$(median run_ours "$1" "$2")
+  opening=$(median 0 run_ours "$1" 0)
+  whole=$(median 0 run_ours "$1" "$2")
   echo $(((whole - opening) / $2))
 }
 
 printf '%-10s %10s %12s %12s %8s\n' notebook frames nbserve python ratio
 for name in three_100 all_100; do
   count=$(frames "$name" 10000)
-  ours=$(median run_ours "$name" 10000)
-  theirs=$(median run_theirs "$name" 10000)
+  ours=$(median 0 run_ours "$name" 10000)
+  theirs=$(median 0 run_theirs "$name" 10000)
   awk -v name="$name" -v count="$count" -v ours="$ours" -v theirs="$theirs" \
     'BEGIN { printf "%-10s %10d %12.0f %12.0f %8.2f\n", name, count, count * 1e9 / ours, count * 1e9 / theirs, theirs / ours }'
 done
