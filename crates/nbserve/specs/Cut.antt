@@ -4,8 +4,8 @@ use Rattle.link_io.specs.Outside.{Took}
 use Rattle.notebook_meaning.specs.Answer.{Part, cost_of_parts, frames_in}
 use Rattle.notebook_meaning.specs.FrameText.{frame_text, labelled}
 
--- The lines of the parts before one were written, and a beginning of the line of that one. The steps of the cells that ran for these parts
--- are counted, and no cell ran for a later one.
+-- The lines of the parts before one were written, and a beginning of the line of that one. The steps of these parts are counted, and none
+-- of later ones.
 pub record IsCut (label : List ℕ) (parts : List Part) (before now : Option (List ℕ)) (count count_after : ℕ) : Type 0 where
   pub written : List Part
   pub last : Part

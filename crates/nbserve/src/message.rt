@@ -13,8 +13,8 @@ pub enum Message<'a> {
     Set { name: &'a str, number: i128 },
 }
 
-/// The bytes of the opening.
-pub const OPEN_MESSAGE: &[u8] = b"{\"open\":{}}";
+/// The text of the opening.
+pub const OPEN_MESSAGE: &str = "{\"open\":{}}";
 
 // The greatest number of bytes of a message.
 const MESSAGE_LIMIT: usize = 65_536;
@@ -82,7 +82,7 @@ pub fn read_text(bytes: &[u8]) -> Option<Message<'_>>
     let Ok(text) = str::from_utf8(bytes) else {
         return None;
     };
-    if text == "{\"open\":{}}" {
+    if text == OPEN_MESSAGE {
         return Some(Message::Open);
     }
     let (name, number) = read_set(text)?;

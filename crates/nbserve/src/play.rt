@@ -119,8 +119,8 @@ pub fn play<O: Sink, L: Ledger>(
     ensures begun { OnErr result ((ms : List Message) → AreMessages (map (λ m. m.now) messages.now) ms
         → TookPart (O.taken out.old) (O.taken out.new) (labelled label.now (solo (view_cells notebook.now) budget ms))) }
 
-    // Where a write fails, it is that of the last frame that a step gave: the lines of the frames before it were written, and no cell ran
-    // behind it.
+    // Where a write fails, it is that of the last frame that a step gave: the lines of the frames before it were written, and no later
+    // steps are counted.
     ensures cut { IfErr result (λ fault. fault ≡ PlayFault.WriteFault → (ms : List Message) → AreMessages (map (λ m. m.now) messages.now) ms
         → IsCut label.now (parts_from (view_cells notebook.now) budget Before ms) (O.taken out.old) (O.taken out.new) steps.old steps.new) }
     ensures later { O.faults out.old ≤ O.faults out.new }

@@ -32,7 +32,7 @@ pub const WANT_OF_MEMORY: u8 = 5;
 
 const NO_SCRIPT: u8 = 6;
 
-/// Why a command isn't carried out. Nothing runs then.
+/// Why a command isn't carried out.
 #[derive(Debug, Drop)]
 pub enum Stop {
     /// The words are no form.

@@ -113,8 +113,8 @@ fn perform_script<F: Files, O: Sink, L: Ledger>(
     ))
 }
 
-// Carries out the command that the words ask for, and answers the status; or why nothing runs, and then nothing was written and no
-// step counted.
+// Carries out the command that the words ask for, and answers the status; or why it isn't carried out, and then nothing was written and
+// no step counted.
 fn carry_out<F: Files, O: Sink, L: Ledger>(
     alloc: Global,
     words: &[String],
@@ -138,7 +138,7 @@ fn carry_out<F: Files, O: Sink, L: Ledger>(
             alloc,
             &notebook,
             b"",
-            &[OPEN_MESSAGE],
+            &[OPEN_MESSAGE.as_bytes()],
             b"",
             out,
             steps,
@@ -185,7 +185,7 @@ pub fn run_words<F: Files, O: Sink, L: Ledger>(
         → steps.new ≡ steps.old + work nb usual_budget ms }
 
     // Where a write fails and no count of read faults rises, a command that can be carried out is cut at the line of the last frame that a
-    // step gave, or in its last line: all before it was written, and no cell ran behind it.
+    // step gave, or in its last line: all before it was written, and no later steps are counted.
     ensures cut { result ≡ 4 → (asked : program.Command) (nb : List Cell) (ms : List Message)
         → command_of (map string_bytes words.now) ≡ Some asked → Works (F.holds files.old) (map string_bytes words.now) nb ms
         → (Rose (F.faults files.old) (F.faults files.new) → ⊥)
@@ -203,7 +203,7 @@ pub fn run_words<F: Files, O: Sink, L: Ledger>(
         → F.holds files.old script ≡ Some (Some text) → IsNoScript (read_of text)
         → (result ≡ 6) ⊎ (result ≡ 3) ⊎ (result ≡ 4) ⊎ (result ≡ 5) }
 
-    // Nothing runs before all tests are passed.
+    // No step is counted before all tests are passed.
     ensures unrun { (result ≡ 1) ⊎ (result ≡ 2) ⊎ (result ≡ 3) ⊎ (result ≡ 6) → steps.new ≡ steps.old }
 {
     match carry_out(alloc, words, files, out, steps) {
