@@ -21,9 +21,13 @@ pub(crate) fn all_parents(
     referenced: &[Lines],
 ) -> Result<Vec<CellList>, GraphFault>
     requires { length defined.now < 2 ^ 32 }
-    ensures parents { IfOk result (λ above. (nb : List Cell) → AreDefs nb defined.now → AreRefs nb referenced.now → AreParents nb above.items) }
-    ensures once { IfOk result (λ above. (nb : List Cell) → AreDefs nb defined.now → NoneDoubled nb) }
-    ensures refused { IfErr result (λ e. (nb : List Cell) → AreDefs nb defined.now → IsCauseOf e nb) }
+    ensures parents { IfOk result
+        (λ above. (nb : List Cell) → AreDefs nb defined.now → AreRefs nb referenced.now
+        → AreParents nb above.items) }
+    ensures once { IfOk result
+        (λ above. (nb : List Cell) → AreDefs nb defined.now → NoneDoubled nb) }
+    ensures refused { IfErr result
+        (λ e. (nb : List Cell) → AreDefs nb defined.now → IsCauseOf e nb) }
 {
     let table = definers(alloc, defined)?;
     let mut above = Vec::new(alloc);
@@ -35,7 +39,9 @@ pub(crate) fn all_parents(
 
 // The cells that define one of these names, in file order.
 fn parents_of(alloc: Global, table: &Definers, names: &[Text]) -> Result<CellList, Memory>
-    ensures { IfOk result (λ cells. (lists : List (List Name)) → FindsLists lists (list_at table.now) → cells ≡ lists_with lists names.now) }
+    ensures { IfOk result
+        (λ cells. (lists : List (List Name)) → FindsLists lists (list_at table.now)
+        → cells ≡ lists_with lists names.now) }
 {
     let mut cells = BTreeSet::new(alloc);
     for name in names {

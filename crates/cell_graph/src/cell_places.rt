@@ -11,7 +11,9 @@ pub(crate) fn places_of(alloc: Global, ordered: &[u32]) -> Result<Vec<u32>, Memo
     requires within { All (λ c. c < length ordered.now) ordered.now }
     requires once { IsDistinct nat_eq ordered.now }
     ensures count { IfOk result (λ places. length places.items ≡ length ordered.now) }
-    ensures each { IfOk result (λ places. (q : ℕ) → q < length ordered.now → slice_index places.items (slice_index ordered.now q) ≡ q) }
+    ensures each { IfOk result
+        (λ places. (q : ℕ) → q < length ordered.now
+        → slice_index places.items (slice_index ordered.now q) ≡ q) }
 {
     let mut places = Vec::from_elem(alloc, 0, ordered.len())?;
     for place in 0..ordered.len() {

@@ -34,7 +34,9 @@ fn empty_lists(alloc: Global, count: usize) -> Result<Vec<CellList>, Memory>
 // Adds a child to each of its parents.
 fn add_child(below: &mut [CellList], parents: &[u32], child: u32) -> Result<(), Memory>
     requires { All (λ p. p < length below.old) parents.now }
-    ensures { OnOk result ((a d : ℕ) → count_of d (list_in below.new a) ≡ count_of d (list_in below.old a) + cond (child == d) (count_of a parents.now) 0) }
+    ensures { OnOk result
+        ((a d : ℕ) → count_of d (list_in below.new a)
+        ≡ count_of d (list_in below.old a) + cond (child == d) (count_of a parents.now) 0) }
 {
     for parent in parents {
         below[*parent as usize].push(child)?;

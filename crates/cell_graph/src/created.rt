@@ -23,7 +23,8 @@ pub fn elements(alloc: Global, cell: &CellCode) -> Result<Lines, Memory>
 
 // The name of the element that a line creates.
 fn created_by(line: &Line) -> Option<&str>
-    ensures { option_to_list (option_map (λ name. name.now) result) ≡ created.head_elements (view_head line.now) }
+    ensures { option_to_list (option_map (λ name. name.now) result)
+        ≡ created.head_elements (view_head line.now) }
 {
     match line {
         Line::Assign(targets, Expr::Call(callee, _)) => match targets.items() {

@@ -14,9 +14,14 @@ use std::alloc::Global;
 // Marks those of these cells that aren't marked yet, and adds them to those to look at.
 fn mark(marked: &mut [bool], pending: &mut Vec<u32>, cells: &[u32]) -> Result<(), Memory>
     requires { All (λ c. c < length marked.old) cells.now }
-    ensures marks { OnOk result ((c : ℕ) → is_marked marked.new c ≡ (is_marked marked.old c || is_in c cells.now)) }
-    ensures added { OnOk result ((c : ℕ) → is_in c pending.new.items ≡ (is_in c pending.old.items || (is_in c cells.now && not (is_marked marked.old c)))) }
-    ensures counted { OnOk result (count_by not marked.new + length pending.new.items ≡ count_by not marked.old + length pending.old.items) }
+    ensures marks { OnOk result
+        ((c : ℕ) → is_marked marked.new c ≡ (is_marked marked.old c || is_in c cells.now)) }
+    ensures added { OnOk result
+        ((c : ℕ) → is_in c pending.new.items
+        ≡ (is_in c pending.old.items || (is_in c cells.now && not (is_marked marked.old c)))) }
+    ensures counted { OnOk result
+        (count_by not marked.new + length pending.new.items
+        ≡ count_by not marked.old + length pending.old.items) }
 {
     for cell in cells {
         if !marked[*cell as usize] {
@@ -31,8 +36,11 @@ fn mark(marked: &mut [bool], pending: &mut Vec<u32>, cells: &[u32]) -> Result<()
 fn lies_on_cycle(alloc: Global, above: &[CellList], cell: u32) -> Result<bool, Memory>
     requires within { AreWithin above.now }
     requires there { cell < length above.now }
-    ensures on { IfOk result (λ lies. (nb : List Cell) → AreParents nb above.now → lies ≡ true → LiesOnCycle nb cell) }
-    ensures off { IfOk result (λ lies. (nb : List Cell) → AreParents nb above.now → lies ≡ false → LiesOnCycle nb cell → ⊥) }
+    ensures on { IfOk result
+        (λ lies. (nb : List Cell) → AreParents nb above.now → lies ≡ true → LiesOnCycle nb cell) }
+    ensures off { IfOk result
+        (λ lies. (nb : List Cell) → AreParents nb above.now → lies ≡ false → LiesOnCycle nb cell
+        → ⊥) }
 {
     let mut marked = Vec::from_elem(alloc, false, above.len())?;
     let mut pending = Vec::new(alloc);
@@ -55,7 +63,8 @@ fn lies_on_cycle(alloc: Global, above: &[CellList], cell: u32) -> Result<bool, M
 pub(crate) fn cyclic_cells(alloc: Global, above: &[CellList]) -> Result<CellList, Memory>
     requires few { length above.now < 2 ^ 32 }
     requires within { AreWithin above.now }
-    ensures { IfOk result (λ cells. (nb : List Cell) → AreParents nb above.now → AreCyclic nb cells) }
+    ensures { IfOk result
+        (λ cells. (nb : List Cell) → AreParents nb above.now → AreCyclic nb cells) }
 {
     let mut cells = Vec::new(alloc);
     for cell in 0..above.len() {

@@ -19,7 +19,8 @@ pub(crate) type Definers<'a> = IndexMap<&'a str, u32>;
 pub(crate) fn definers<'a>(alloc: Global, defined: &'a [Lines]) -> Result<Definers<'a>, GraphFault>
     requires { length defined.now < 2 ^ 32 }
     ensures finds { IfOk result (λ table. FindsLists defined.now (list_at table)) }
-    ensures refused { IfErr result (λ e. (nb : List Cell) → AreDefs nb defined.now → IsCauseOf e nb) }
+    ensures refused { IfErr result
+        (λ e. (nb : List Cell) → AreDefs nb defined.now → IsCauseOf e nb) }
 {
     let mut table = IndexMap::new(alloc);
     for cell in 0..defined.len() {
@@ -35,8 +36,13 @@ fn add_definitions<'a>(
     names: &'a [Text],
     cell: u32,
 ) -> Result<(), GraphFault>
-    ensures finds { OnOk result ((lists : List (List Name)) → length lists ≡ cell → FindsLists lists (list_at table.old) → FindsLists (lists ++ names.now ∷ []) (list_at table.new)) }
-    ensures refused { IfErr result (λ e. (nb : List Cell) (lists later : List (List Name)) → length lists ≡ cell → AreDefs nb (lists ++ names.now ∷ later) → FindsLists lists (list_at table.old) → IsCauseOf e nb) }
+    ensures finds { OnOk result
+        ((lists : List (List Name)) → length lists ≡ cell → FindsLists lists (list_at table.old)
+        → FindsLists (lists ++ names.now ∷ []) (list_at table.new)) }
+    ensures refused { IfErr result
+        (λ e. (nb : List Cell) (lists later : List (List Name)) → length lists ≡ cell
+        → AreDefs nb (lists ++ names.now ∷ later) → FindsLists lists (list_at table.old)
+        → IsCauseOf e nb) }
 {
     for name in names {
         if let Some(first) = table.insert(name.items(), cell)? {

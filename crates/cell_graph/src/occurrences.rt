@@ -10,7 +10,8 @@ use py_value::Memory;
 // Adds the names that an expression reads.
 #[cycle(add_reads)]
 fn add_reads<'a>(names: &mut Vec<&'a str>, expr: &'a Expr) -> Result<(), Memory>
-    ensures { OnOk result (texts names.new.items ≡ texts names.old.items ++ scope.reads (view expr.now)) }
+    ensures { OnOk result
+        (texts names.new.items ≡ texts names.old.items ++ scope.reads (view expr.now)) }
 {
     match expr {
         Expr::Literal(_) => Ok(()),
@@ -30,7 +31,8 @@ fn add_reads<'a>(names: &mut Vec<&'a str>, expr: &'a Expr) -> Result<(), Memory>
 // Adds the names that expressions read.
 #[cycle(add_reads)]
 fn add_all_reads<'a>(names: &mut Vec<&'a str>, exprs: &'a [Expr]) -> Result<(), Memory>
-    ensures { OnOk result (texts names.new.items ≡ texts names.old.items ++ scope.all_reads (views exprs.now)) }
+    ensures { OnOk result
+        (texts names.new.items ≡ texts names.old.items ++ scope.all_reads (views exprs.now)) }
 {
     for expr in exprs {
         add_reads(names, expr)?;
@@ -48,7 +50,8 @@ fn add_name<'a>(names: &mut Vec<&'a str>, name: &'a Spelling) -> Result<(), Memo
 
 // Adds the names that a line reads.
 fn add_line_reads<'a>(names: &mut Vec<&'a str>, line: &'a Line) -> Result<(), Memory>
-    ensures { OnOk result (texts names.new.items ≡ texts names.old.items ++ scope.head_reads (view_head line.now)) }
+    ensures { OnOk result
+        (texts names.new.items ≡ texts names.old.items ++ scope.head_reads (view_head line.now)) }
 {
     match line {
         Line::Value(value) => add_reads(names, value),
@@ -59,7 +62,8 @@ fn add_line_reads<'a>(names: &mut Vec<&'a str>, line: &'a Line) -> Result<(), Me
 
 // Adds the names that a line binds.
 fn add_line_binds<'a>(names: &mut Vec<&'a str>, line: &'a Line) -> Result<(), Memory>
-    ensures { OnOk result (texts names.new.items ≡ texts names.old.items ++ scope.head_binds (view_head line.now)) }
+    ensures { OnOk result
+        (texts names.new.items ≡ texts names.old.items ++ scope.head_binds (view_head line.now)) }
 {
     match line {
         Line::Value(_) => {}
@@ -75,7 +79,8 @@ fn add_line_binds<'a>(names: &mut Vec<&'a str>, line: &'a Line) -> Result<(), Me
 
 // Adds every name that lines and their blocks bind at cell scope.
 pub(crate) fn add_bound<'a>(names: &mut Vec<&'a str>, block: &'a Block) -> Result<(), Memory>
-    ensures { OnOk result (texts names.new.items ≡ texts names.old.items ++ scope.bound (view_block block.now)) }
+    ensures { OnOk result
+        (texts names.new.items ≡ texts names.old.items ++ scope.bound (view_block block.now)) }
 {
     for stmt in block.items() {
         add_line_binds(names, &stmt.line)?;
@@ -86,7 +91,8 @@ pub(crate) fn add_bound<'a>(names: &mut Vec<&'a str>, block: &'a Block) -> Resul
 
 // Adds every name that they read at cell scope.
 pub(crate) fn add_read<'a>(names: &mut Vec<&'a str>, block: &'a Block) -> Result<(), Memory>
-    ensures { OnOk result (texts names.new.items ≡ texts names.old.items ++ scope.read_names (view_block block.now)) }
+    ensures { OnOk result
+        (texts names.new.items ≡ texts names.old.items ++ scope.read_names (view_block block.now)) }
 {
     for stmt in block.items() {
         add_line_reads(names, &stmt.line)?;

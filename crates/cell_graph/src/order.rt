@@ -19,7 +19,8 @@ pub(crate) fn order_of(
     requires few { length above.now < 2 ^ 32 }
     requires within { AreWithin above.now }
     requires turned { AreTurned above.now below.now }
-    ensures { IfOk result (λ listed. (nb : List Cell) → AreParents nb above.now → listed.items ≡ order nb) }
+    ensures { IfOk result
+        (λ listed. (nb : List Cell) → AreParents nb above.now → listed.items ≡ order nb) }
 {
     let mut waits = parent_counts(alloc, above)?;
     let mut ready = unheld(alloc, waits.as_slice())?;

@@ -25,7 +25,10 @@ pub(crate) fn readers(alloc: Global, referenced: &[Lines]) -> Result<Readers, Me
 
 // Adds a cell at each name that it references.
 fn add_reader(alloc: Global, table: &mut Readers, names: &[Text], cell: u32) -> Result<(), Memory>
-    ensures { OnOk result ((x : Name) (c : ℕ) → is_in c (cells_at table.new x) ≡ (is_in c (cells_at table.old x) || ((cell == c) && is_among x names.now))) }
+    ensures { OnOk result
+        ((x : Name) (c : ℕ)
+        → is_in c (cells_at table.new x)
+        ≡ (is_in c (cells_at table.old x) || ((cell == c) && is_among x names.now))) }
 {
     for name in names {
         let mut cells = match table.remove(name.items()) {

@@ -20,7 +20,11 @@ pub(crate) fn reading(
 ) -> Result<BTreeSet<u32>, Memory>
     requires cells { (x : Name) → All (λ c. c < length places.now) (cells_at readers.now x) }
     requires there { All (λ q. q < length places.now) places.now }
-    ensures { IfOk result (λ pending. pending.keys ≡ filter (λ q. list_any (λ x. is_placed places.now (cells_at readers.now x) q) names.now) (numbers_from 0 places.now)) }
+    ensures { IfOk result
+        (λ pending. pending.keys
+        ≡ filter (λ q. list_any
+        (λ x. is_placed places.now (cells_at readers.now x) q) names.now)
+        (numbers_from 0 places.now)) }
 {
     let mut pending = BTreeSet::new(alloc);
     for name in names {
@@ -39,7 +43,10 @@ pub(crate) fn add_places(
 ) -> Result<(), Memory>
     requires cells { All (λ c. c < length places.now) cells.now }
     requires there { All (λ q. q < length places.now) places.now }
-    ensures { OnOk result ((p : ℕ → Bool) → pending.old.keys ≡ filter p (numbers_from 0 places.now) → pending.new.keys ≡ filter (λ q. p q || is_placed places.now cells.now q) (numbers_from 0 places.now)) }
+    ensures { OnOk result
+        ((p : ℕ → Bool) → pending.old.keys ≡ filter p (numbers_from 0 places.now)
+        → pending.new.keys
+        ≡ filter (λ q. p q || is_placed places.now cells.now q) (numbers_from 0 places.now)) }
 {
     for cell in cells {
         pending.insert(places[*cell as usize])?;

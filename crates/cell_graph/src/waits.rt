@@ -23,7 +23,9 @@ pub(crate) fn parent_counts(alloc: Global, above: &[CellList]) -> Result<Vec<usi
 // The cells that wait for none.
 pub(crate) fn unheld(alloc: Global, waits: &[usize]) -> Result<BTreeSet<u32>, Memory>
     requires { length waits.now < 2 ^ 32 }
-    ensures { IfOk result (λ ready. ready.keys ≡ filter (λ c. slice_index waits.now c == 0) (numbers_from 0 waits.now)) }
+    ensures { IfOk result
+        (λ ready. ready.keys
+        ≡ filter (λ c. slice_index waits.now c == 0) (numbers_from 0 waits.now)) }
 {
     let mut ready = BTreeSet::new(alloc);
     for cell in 0..waits.len() {
@@ -42,8 +44,13 @@ pub(crate) fn release(
 ) -> Result<(), Memory>
     requires within { All (λ c. c < length waits.old) children.now }
     requires held { (c : ℕ) → count_of c children.now ≤ slice_index waits.old c }
-    ensures waits { OnOk result ((c : ℕ) → slice_index waits.new c + count_of c children.now ≡ slice_index waits.old c) }
-    ensures ready { OnOk result ((p : ℕ → Bool) → ready.old.keys ≡ filter p (numbers_from 0 waits.old) → ready.new.keys ≡ filter (λ c. p c || (is_in c children.now && (slice_index waits.new c == 0))) (numbers_from 0 waits.old)) }
+    ensures waits { OnOk result
+        ((c : ℕ) → slice_index waits.new c + count_of c children.now ≡ slice_index waits.old c) }
+    ensures ready { OnOk result
+        ((p : ℕ → Bool) → ready.old.keys ≡ filter p (numbers_from 0 waits.old)
+        → ready.new.keys
+        ≡ filter (λ c. p c || (is_in c children.now && (slice_index waits.new c == 0)))
+        (numbers_from 0 waits.old)) }
 {
     for child in children {
         waits[*child as usize] -= 1;

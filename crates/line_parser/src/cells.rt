@@ -18,9 +18,12 @@ pub fn cells(
     reader: &mut Reader,
     elements: &Elements,
 ) -> Result<Vec<CellCode>, ThinFault>
-    ensures found { IfOk result (λ v. HasCells (as_elements elements.now) reader.old reader.new (view_cells v.items)) }
+    ensures found { IfOk result
+        (λ v. HasCells (as_elements elements.now) reader.old reader.new (view_cells v.items)) }
     ensures only { ReadsCells (as_elements elements.now) reader.old reader.new result }
-    ensures led { IfOk result (λ v. LeadsPastCells (as_elements elements.now) (flat_map cell_lines (view_cells v.items)) reader.new.bytes) }
+    ensures led { IfOk result
+        (λ v. LeadsPastCells (as_elements elements.now)
+        (flat_map cell_lines (view_cells v.items)) reader.new.bytes) }
     ensures stuck { IfErr result (λ e. StopsAt (as_elements elements.now) reader.old Between e) }
 {
     let mut cells = Vec::new(alloc);
@@ -36,11 +39,18 @@ fn cell(
     reader: &mut Reader,
     elements: &Elements,
 ) -> Result<Option<CellCode>, ThinFault>
-    ensures found { IfOk result (λ o. MatchOption o (reader.new ≡ reader.old) (λ c. HasCell (as_elements elements.now) reader.old reader.new (view_cell c))) }
+    ensures found { IfOk result
+        (λ o. MatchOption o (reader.new ≡ reader.old)
+        (λ c. HasCell (as_elements elements.now) reader.old reader.new (view_cell c))) }
     ensures only { ReadsCell (as_elements elements.now) reader.old reader.new result }
     ensures ends { (BeginsWith 64 reader.old.bytes → ⊥) → result ≡ Ok None }
-    ensures between { IfOk result (λ o. MatchOption o (IsNoNext (λ line. line ≡ decorator_line) reader.old.bytes) (λ c. IsBetween (as_elements elements.now) (place_after (view_cell c).body) reader.new.bytes)) }
-    ensures stuck { IfErr result (λ e. (at : Place) → Fits (as_elements elements.now) at decorator_line Definition → StopsAt (as_elements elements.now) reader.old at e) }
+    ensures between { IfOk result
+        (λ o. MatchOption o (IsNoNext (λ line. line ≡ decorator_line) reader.old.bytes)
+        (λ c. IsBetween (as_elements elements.now)
+        (place_after (view_cell c).body) reader.new.bytes)) }
+    ensures stuck { IfErr result
+        (λ e. (at : Place) → Fits (as_elements elements.now) at decorator_line Definition
+        → StopsAt (as_elements elements.now) reader.old at e) }
 {
     let line = reader.line();
     if !reader.skip(b"@app.cell") {
@@ -56,11 +66,14 @@ fn cell(
 
 // Reads a body, which has one line or more.
 fn body(alloc: Global, reader: &mut Reader, elements: &Elements) -> Result<Vec<Stmt>, ThinFault>
-    ensures found { IfOk result (λ v. HasBody (as_elements elements.now) reader.old reader.new (view_stmts v.items)) }
+    ensures found { IfOk result
+        (λ v. HasBody (as_elements elements.now) reader.old reader.new (view_stmts v.items)) }
     ensures some { IfOk result (λ v. IsTrue (not (is_empty (view_stmts v.items)))) }
     ensures whole { IfOk result (λ v. IsTrue (is_whole (view_stmts v.items))) }
     ensures only { ReadsBody (as_elements elements.now) reader.old reader.new result }
-    ensures between { IfOk result (λ v. IsBetween (as_elements elements.now) (place_after (view_stmts v.items)) reader.new.bytes) }
+    ensures between { IfOk result
+        (λ v. IsBetween (as_elements elements.now)
+        (place_after (view_stmts v.items)) reader.new.bytes) }
     ensures stuck { IfErr result (λ e. StopsAt (as_elements elements.now) reader.old Body e) }
 {
     let mut stmts = Vec::new(alloc);

@@ -26,7 +26,9 @@ fn assigned(
     value: &str,
     elements: &Elements,
 ) -> Result<Option<Expr>, Memory>
-    ensures { IfOk result (λ o. option_map view o ≡ reading.read_assigned (as_elements elements.now) name.now (words value.now)) }
+    ensures { IfOk result
+        (λ o. option_map view o
+        ≡ reading.read_assigned (as_elements elements.now) name.now (words value.now)) }
 {
     if !elements.is_slider(name) {
         return sum(alloc, value, elements);
@@ -46,7 +48,9 @@ fn assignment(
     value: &str,
     elements: &Elements,
 ) -> Result<Option<Line>, Memory>
-    ensures { IfOk result (λ o. option_map view_head o ≡ reading.read_assignment (as_elements elements.now) name.now (words value.now)) }
+    ensures { IfOk result
+        (λ o. option_map view_head o
+        ≡ reading.read_assignment (as_elements elements.now) name.now (words value.now)) }
 {
     if !is_name(name) {
         return Ok(None);
@@ -61,7 +65,8 @@ fn assignment(
 
 // The import of `mo`, in a file that imports it.
 fn import(text: &str, elements: &Elements) -> Option<Line>
-    ensures { option_map view_head result ≡ reading.read_import (as_elements elements.now) text.now }
+    ensures { option_map view_head result
+        ≡ reading.read_import (as_elements elements.now) text.now }
 {
     if text == "import marimo as mo" && elements.imported() {
         Some(Line::ImportMo)
@@ -71,7 +76,8 @@ fn import(text: &str, elements: &Elements) -> Option<Line>
 }
 
 fn line(alloc: Global, text: &str, elements: &Elements) -> Result<Option<Line>, Memory>
-    ensures { IfOk result (λ o. option_map view_head o ≡ reading.read_line (as_elements elements.now) text.now) }
+    ensures { IfOk result
+        (λ o. option_map view_head o ≡ reading.read_line (as_elements elements.now) text.now) }
 {
     if let Some((name, value)) = target(text) {
         return assignment(alloc, name, value, elements);
@@ -85,8 +91,12 @@ fn line(alloc: Global, text: &str, elements: &Elements) -> Result<Option<Line>, 
 /// The line that the text of a body line spells, without its indent and its `\n`; none where it spells no line of the form in a
 /// file with these elements.
 pub fn body_line(alloc: Global, text: &[u8], elements: &Elements) -> Result<Option<Line>, Memory>
-    ensures found { IfOk result (λ o. IfSome o (λ l. IsTrue (is_line (as_elements elements.now) (view_head l)) × (text.now ≡ head_text (view_head l)))) }
-    ensures only { (h : Head) → IsTrue (is_line (as_elements elements.now) h) → text.now ≡ head_text h → IfOk result (λ o. option_map view_head o ≡ Some h) }
+    ensures found { IfOk result
+        (λ o. IfSome o
+        (λ l. IsTrue (is_line (as_elements elements.now) (view_head l))
+        × (text.now ≡ head_text (view_head l)))) }
+    ensures only { (h : Head) → IsTrue (is_line (as_elements elements.now) h)
+        → text.now ≡ head_text h → IfOk result (λ o. option_map view_head o ≡ Some h) }
 {
     match str::from_utf8(text) {
         Ok(text) => line(alloc, text, elements),
@@ -102,7 +112,8 @@ fn is_call(tree: &Expr) -> bool
 
 /// Whether a line of the form is the whole body of its cell.
 pub fn stands_alone(line: &Line) -> bool
-    ensures { (es : thin.Elements) → IsTrue (is_line es (view_head line.now)) → result ≡ thin.stands_alone (view_head line.now) }
+    ensures { (es : thin.Elements) → IsTrue (is_line es (view_head line.now))
+        → result ≡ thin.stands_alone (view_head line.now) }
 {
     match line {
         Line::Value(_) => false,

@@ -13,7 +13,9 @@ fn are_digits(bytes: &[u8]) -> bool
 // The number that digits spell, where an `i128` holds it.
 fn decimal(word: &str) -> Option<i128>
     requires { 0 < length word.now }
-    ensures { result ≡ cond (list_all is_digit word.now && nat_lt (number_of word.now) (2 ^ 127)) (Some (pos (number_of word.now))) None }
+    ensures { result
+        ≡ cond (list_all is_digit word.now && nat_lt (number_of word.now) (2 ^ 127))
+        (Some (pos (number_of word.now))) None }
 {
     if !are_digits(word.as_bytes()) {
         return None;

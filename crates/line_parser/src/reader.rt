@@ -74,7 +74,9 @@ impl<'a> Reader<'a> {
 
     // Passes over the line that comes next where it is this one.
     pub fn skip(&mut self, line: &[u8]) -> bool
-        ensures { MatchBool result (IsPast self.old self.new (line.now ∷ []) 0) ((self.new ≡ self.old) × ((rest : List ℕ) → self.old.bytes ≡ text_of (line.now ∷ []) ++ rest → ⊥)) }
+        ensures { MatchBool result (IsPast self.old self.new (line.now ∷ []) 0)
+            ((self.new ≡ self.old)
+            × ((rest : List ℕ) → self.old.bytes ≡ text_of (line.now ∷ []) ++ rest → ⊥)) }
     {
         match after_line(self.bytes, line) {
             Some(rest) => {
@@ -90,7 +92,8 @@ impl<'a> Reader<'a> {
     pub fn expect(&mut self, line: &[u8]) -> Result<(), ThinFault>
         ensures found { OnOk result (IsPast self.old self.new (line.now ∷ []) 0) }
         ensures line { IfErr result (λ e. e ≡ ThinFault.Thin self.old.line) }
-        ensures refused { OnErr result ((rest : List ℕ) → self.old.bytes ≡ text_of (line.now ∷ []) ++ rest → ⊥) }
+        ensures refused { OnErr result
+            ((rest : List ℕ) → self.old.bytes ≡ text_of (line.now ∷ []) ++ rest → ⊥) }
     {
         if self.skip(line) {
             Ok(())
@@ -106,11 +109,15 @@ impl<'a> Reader<'a> {
         elements: &Elements,
         first: bool,
     ) -> Result<Option<Stmt>, ThinFault>
-        ensures found { IfOk result (λ o. MatchOption o (self.new ≡ self.old) (λ s. HasStmt (as_elements elements.now) first self.old self.new (view_stmt s))) }
+        ensures found { IfOk result
+            (λ o. MatchOption o (self.new ≡ self.old)
+            (λ s. HasStmt (as_elements elements.now) first self.old self.new (view_stmt s))) }
         ensures only { ReadsLine (as_elements elements.now) first self.old self.new result }
         ensures ends { (IsIndented self.old.bytes → ⊥) → result ≡ Ok None }
-        ensures none { IfOk result (λ o. IfNone o (IsNoNext (IsBody (as_elements elements.now)) self.old.bytes)) }
-        ensures stuck { IfErr result (λ e. StopsAt (as_elements elements.now) self.old (cond first Body AfterBody) e) }
+        ensures none { IfOk result
+            (λ o. IfNone o (IsNoNext (IsBody (as_elements elements.now)) self.old.bytes)) }
+        ensures stuck { IfErr result
+            (λ e. StopsAt (as_elements elements.now) self.old (cond first Body AfterBody) e) }
     {
         let Some((text, rest)) = indented(self.bytes) else {
             return Ok(None);
@@ -141,9 +148,17 @@ fn placed_line(
     elements: &Elements,
     first: bool,
 ) -> Result<Option<Line>, Memory>
-    ensures found { IfOk result (λ o. IfSome o (λ l. IsTrue (is_line (as_elements elements.now) (view_head l)) × (text.now ≡ head_text (view_head l)) × IsPlaced first (view_head l) rest.now)) }
-    ensures only { (h : Head) → IsTrue (is_line (as_elements elements.now) h) → IsPlaced first h rest.now → text.now ≡ head_text h → IfOk result (λ o. option_map view_head o ≡ Some h) }
-    ensures none { IfOk result (λ o. IfNone o ((h : Head) → IsTrue (is_line (as_elements elements.now) h) → text.now ≡ head_text h → IsTrue (thin.stands_alone h) × ((first ≡ false) ⊎ IsIndented rest.now))) }
+    ensures found { IfOk result
+        (λ o. IfSome o
+        (λ l. IsTrue (is_line (as_elements elements.now) (view_head l))
+        × (text.now ≡ head_text (view_head l)) × IsPlaced first (view_head l) rest.now)) }
+    ensures only { (h : Head) → IsTrue (is_line (as_elements elements.now) h)
+        → IsPlaced first h rest.now → text.now ≡ head_text h
+        → IfOk result (λ o. option_map view_head o ≡ Some h) }
+    ensures none { IfOk result
+        (λ o. IfNone o
+        ((h : Head) → IsTrue (is_line (as_elements elements.now) h) → text.now ≡ head_text h
+        → IsTrue (thin.stands_alone h) × ((first ≡ false) ⊎ IsIndented rest.now))) }
 {
     let Some(line) = body_line(alloc, text, elements)? else {
         return Ok(None);
@@ -156,14 +171,16 @@ fn placed_line(
 
 // Whether a line with these bytes behind it is the only one of its body.
 fn is_only_line(first: bool, rest: &[u8]) -> bool
-    ensures { MatchBool result (IsTrue first × (IsIndented rest.now → ⊥)) ((first ≡ false) ⊎ IsIndented rest.now) }
+    ensures { MatchBool result (IsTrue first × (IsIndented rest.now → ⊥))
+        ((first ≡ false) ⊎ IsIndented rest.now) }
 {
     first && !rest.starts_with(b"    ")
 }
 
 // What comes after the line where the bytes begin with it.
 fn after_line<'a>(bytes: &'a [u8], line: &[u8]) -> Option<&'a [u8]>
-    ensures { MatchOption result ((rest : List ℕ) → bytes.now ≡ text_of (line.now ∷ []) ++ rest → ⊥) (λ rest. bytes.now ≡ text_of (line.now ∷ []) ++ rest.now) }
+    ensures { MatchOption result ((rest : List ℕ) → bytes.now ≡ text_of (line.now ∷ []) ++ rest → ⊥)
+        (λ rest. bytes.now ≡ text_of (line.now ∷ []) ++ rest.now) }
 {
     bytes.strip_prefix(line)?.strip_prefix(b"\n")
 }
@@ -171,7 +188,10 @@ fn after_line<'a>(bytes: &'a [u8], line: &[u8]) -> Option<&'a [u8]>
 // The text of the line that comes next, without its indent and its `\n`, and what comes after it. None where no whole line with
 // an indent comes.
 fn indented(bytes: &[u8]) -> Option<(&[u8], &[u8])>
-    ensures { MatchOption result ((text rest : List ℕ) → bytes.now ≡ codes "    " ++ text ++ 10 ∷ rest → ⊥) (λ p. IsTrue (is_unbroken p.0.now) × (bytes.now ≡ codes "    " ++ p.0.now ++ 10 ∷ p.1.now)) }
+    ensures { MatchOption result
+        ((text rest : List ℕ) → bytes.now ≡ codes "    " ++ text ++ 10 ∷ rest → ⊥)
+        (λ p. IsTrue (is_unbroken p.0.now)
+        × (bytes.now ≡ codes "    " ++ p.0.now ++ 10 ∷ p.1.now)) }
 {
     whole_line(bytes.strip_prefix(b"    ")?)
 }

@@ -23,7 +23,8 @@ fn are_bounds(low: &str, high: &str) -> bool
 
 // The bounds in the two words of `mo.ui.slider(LOW, HIGH)`.
 fn bounds_in<'a>(first: &'a str, second: &'a str) -> Option<(&'a str, &'a str)>
-    ensures { option_map (λ p. record { low = p.0.now; high = p.1.now }) result ≡ reading.bounds_in first.now second.now }
+    ensures { option_map (λ p. record { low = p.0.now; high = p.1.now }) result
+        ≡ reading.bounds_in first.now second.now }
 {
     let low = without_back(without_front(first, "mo.ui.slider(")?, ",")?;
     let high = without_back(second, ")")?;
@@ -36,7 +37,8 @@ fn bounds_in<'a>(first: &'a str, second: &'a str) -> Option<(&'a str, &'a str)>
 
 // The bounds that `mo.ui.slider(LOW, HIGH)` names.
 pub fn bounds(text: &str) -> Option<(&str, &str)>
-    ensures { option_map (λ p. record { low = p.0.now; high = p.1.now }) result ≡ reading.read_bounds (words text.now) }
+    ensures { option_map (λ p. record { low = p.0.now; high = p.1.now }) result
+        ≡ reading.read_bounds (words text.now) }
 {
     let (first, second) = two_words(text)?;
     bounds_in(first, second)
@@ -64,7 +66,9 @@ pub fn slider_in(line: &[u8]) -> Option<&str>
 
 // The text behind four spaces.
 fn indented_text(line: &[u8]) -> Option<&str>
-    ensures { MatchOption result ((text : List ℕ) → line.now ≡ codes "    " ++ text → IsUtf8 text → ⊥) (λ text. line.now ≡ codes "    " ++ text.now) }
+    ensures { MatchOption result
+        ((text : List ℕ) → line.now ≡ codes "    " ++ text → IsUtf8 text → ⊥)
+        (λ text. line.now ≡ codes "    " ++ text.now) }
 {
     str::from_utf8(line.strip_prefix(b"    ")?).ok()
 }

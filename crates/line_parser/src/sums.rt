@@ -18,7 +18,8 @@ const MAX_TERMS: u32 = 32;
 
 // `NAME.value`, where the word is this and the name is that of a slider.
 fn slider_value(alloc: Global, word: &str, elements: &Elements) -> Result<Option<Expr>, Memory>
-    ensures { IfOk result (λ o. option_map view o ≡ reading.read_value (as_elements elements.now) word.now) }
+    ensures { IfOk result
+        (λ o. option_map view o ≡ reading.read_value (as_elements elements.now) word.now) }
 {
     let Some(slider) = without_back(word, ".value") else {
         return Ok(None);
@@ -32,7 +33,8 @@ fn slider_value(alloc: Global, word: &str, elements: &Elements) -> Result<Option
 
 // The name, the number or the value of a slider that the word is.
 fn term(alloc: Global, word: &str, elements: &Elements) -> Result<Option<Expr>, Memory>
-    ensures { IfOk result (λ o. option_map view o ≡ reading.read_term (as_elements elements.now) word.now) }
+    ensures { IfOk result
+        (λ o. option_map view o ≡ reading.read_term (as_elements elements.now) word.now) }
 {
     if is_name(word) {
         if elements.is_slider(word) {
@@ -48,7 +50,8 @@ fn term(alloc: Global, word: &str, elements: &Elements) -> Result<Option<Expr>, 
 
 // The word after `+ `, and the text after it.
 fn next_term(text: &str) -> Option<(&str, Option<&str>)>
-    ensures { option_map (λ p. (p.0.now, words_left (option_map (λ t. t.now) p.1))) result ≡ reading.next_term (words text.now) }
+    ensures { option_map (λ p. (p.0.now, words_left (option_map (λ t. t.now) p.1))) result
+        ≡ reading.next_term (words text.now) }
 {
     match next_word(text) {
         ("+", Some(rest)) => Some(next_word(rest)),
@@ -58,7 +61,8 @@ fn next_term(text: &str) -> Option<(&str, Option<&str>)>
 
 // The sum that the text spells: at most `MAX_TERMS` terms, each but the first behind ` + `.
 pub fn sum(alloc: Global, text: &str, elements: &Elements) -> Result<Option<Expr>, Memory>
-    ensures { IfOk result (λ o. option_map view o ≡ reading.read_sum (as_elements elements.now) (words text.now)) }
+    ensures { IfOk result
+        (λ o. option_map view o ≡ reading.read_sum (as_elements elements.now) (words text.now)) }
 {
     let (first, mut rest) = next_word(text);
     let Some(mut tree) = term(alloc, first, elements)? else {

@@ -53,7 +53,8 @@ impl<T: Drop> From<AllocFailed<T>> for ThinFault {
 /// The cells of a file of the thin form. It refuses exactly the other bytes, and names the line at which they fail.
 pub fn thin(alloc: Global, bytes: &[u8]) -> Result<Vec<CellCode>, ThinFault>
     ensures cells { IfOk result (λ cells. IsForm bytes.now (view_cells cells.items)) }
-    ensures only { (nb : List Cell) → IsForm bytes.now nb → IfOk result (λ cells. view_cells cells.items ≡ nb) }
+    ensures only { (nb : List Cell) → IsForm bytes.now nb
+        → IfOk result (λ cells. view_cells cells.items ≡ nb) }
     ensures refused { IfErr result (λ e. IsCauseOf e bytes.now) }
 {
     if bytes.len() > BYTE_LIMIT {

@@ -4,7 +4,8 @@ ghost use Rattle.line_parser.specs.FileReading.{is_unbroken};
 
 /// The first line without its `\n`, and what comes after it. None where no `\n` comes.
 pub fn whole_line(bytes: &[u8]) -> Option<(&[u8], &[u8])>
-    ensures { MatchOption result ((line rest : List ℕ) → bytes.now ≡ line ++ 10 ∷ rest → ⊥) (λ p. IsTrue (is_unbroken p.0.now) × (bytes.now ≡ p.0.now ++ 10 ∷ p.1.now)) }
+    ensures { MatchOption result ((line rest : List ℕ) → bytes.now ≡ line ++ 10 ∷ rest → ⊥)
+        (λ p. IsTrue (is_unbroken p.0.now) × (bytes.now ≡ p.0.now ++ 10 ∷ p.1.now)) }
 {
     let end = line_end(bytes)?;
     Some((&bytes[..end], &bytes[end + 1..]))

@@ -17,7 +17,8 @@ pub trait Sink {
     fn write(&mut self, piece: &[u8]) -> Result<usize, Failed>
         ensures within { IfOk result (λ n. n ≤ length piece.now) }
         ensures some { IfOk result (λ n. 0 < length piece.now → 0 < n) }
-        ensures taken { IfOk result (λ n. Took (taken self.old) (taken self.new) (take n piece.now)) }
+        ensures taken { IfOk result
+            (λ n. Took (taken self.old) (taken self.new) (take n piece.now)) }
         ensures kept { OnErr result (Took (taken self.old) (taken self.new) []) }
         ensures later { faults self.old ≤ faults self.new }
         ensures failed { OnErr result (Rose (faults self.old) (faults self.new)) };

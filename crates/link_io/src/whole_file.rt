@@ -26,12 +26,15 @@ fn read_piece<F: Files>(
 ) -> Result<usize, ReadFault>
     requires { 0 < length buffer.old }
     ensures read { IfSome (F.holds files.old name.now)
-        (λ told. IfOk result (λ count. (all : List ℕ) × (told ≡ Some all) × HasNext all bytes.old.items bytes.new.items count)) }
+        (λ told. IfOk result
+        (λ count. (all : List ℕ) × (told ≡ Some all)
+        × HasNext all bytes.old.items bytes.new.items count)) }
     ensures grown { IfOk result (λ count. length bytes.new.items ≡ length bytes.old.items + count) }
     ensures within { IfOk result (λ count. count ≤ length buffer.old) }
     ensures same { (other : List ℕ) → F.holds files.new other ≡ F.holds files.old other }
     ensures later { F.faults files.old ≤ F.faults files.new }
-    ensures failed { result ≡ Err ReadFault.Failed → Rose (F.faults files.old) (F.faults files.new) }
+    ensures failed { result ≡ Err ReadFault.Failed
+        → Rose (F.faults files.old) (F.faults files.new) }
 {
     let Ok(count) = files.read_at(name, bytes.len() as u64, buffer) else {
         return Err(ReadFault::Failed);
@@ -51,11 +54,13 @@ pub fn read_file<F: Files>(
 ) -> Result<Vec<u8>, ReadFault>
     requires { limit + 1 < 2 ^ 63 }
     ensures read { IfSome (F.holds files.old name.now)
-        (λ told. IfOk result (λ bytes. (all : List ℕ) × (told ≡ Some all) × (bytes.items ≡ take (limit + 1) all))) }
+        (λ told. IfOk result
+        (λ bytes. (all : List ℕ) × (told ≡ Some all) × (bytes.items ≡ take (limit + 1) all))) }
     ensures short { IfOk result (λ bytes. length bytes.items ≤ limit + 1) }
     ensures same { (other : List ℕ) → F.holds files.new other ≡ F.holds files.old other }
     ensures later { F.faults files.old ≤ F.faults files.new }
-    ensures failed { result ≡ Err ReadFault.Failed → Rose (F.faults files.old) (F.faults files.new) }
+    ensures failed { result ≡ Err ReadFault.Failed
+        → Rose (F.faults files.old) (F.faults files.new) }
 {
     let mut bytes = Vec::new(alloc);
     let mut buffer = [0; PIECE];

@@ -84,7 +84,8 @@ fn push_output(out: &mut Vec<u8>, output: &Option<Output>) -> Result<(), AllocEr
 
 // Lines, each after a comma.
 fn push_further_lines(out: &mut Vec<u8>, lines: &[Text]) -> Result<(), AllocError>
-    ensures { OnOk result (out.new.items ≡ out.old.items ++ flat_map (λ line. 44 ∷ quoted line) lines.now) }
+    ensures { OnOk result
+        (out.new.items ≡ out.old.items ++ flat_map (λ line. 44 ∷ quoted line) lines.now) }
 {
     for line in lines {
         out.extend_from_slice(b",")?;

@@ -75,14 +75,19 @@ impl<'n> KernelState<'n> {
         steps: &mut Steps<L>,
     ) -> Result<CellFrame, Memory>
         requires levelled { IsTrue (are_levelled (view_block code.now.body)) }
-        requires plain_code { IsTrue (list_all (λ x. not (is_local x)) (scope.bound (view_block code.now.body))) }
+        requires plain_code { IsTrue
+            (list_all (λ x. not (is_local x)) (scope.bound (view_block code.now.body))) }
         requires plain { IsPlain self.old.env }
         requires defs { defs.now ≡ scope.defs (view_cell code.now) }
         requires own { own.now ≡ elements (view_cell code.now) }
         requires removed { whole.without_defs (view_cell code.now) self.old.env ≡ self.old.env }
-        ensures frame { IfOk result (λ frame. frame ≡ whole.ran_frame cell (run_of self.old (view_cell code.now))) }
-        ensures env { OnOk result (self.new.env ≡ whole.env_after self.old.env (run_of self.old (view_cell code.now))) }
-        ensures steps { OnOk result (steps.new ≡ steps.old + cost_of self.old.budget (run_of self.old (view_cell code.now))) }
+        ensures frame { IfOk result
+            (λ frame. frame ≡ whole.ran_frame cell (run_of self.old (view_cell code.now))) }
+        ensures env { OnOk result
+            (self.new.env ≡ whole.env_after self.old.env (run_of self.old (view_cell code.now))) }
+        ensures steps { OnOk result
+            (steps.new ≡ steps.old + cost_of self.old.budget
+            (run_of self.old (view_cell code.now))) }
         ensures others { self.new ≡ record self.old { env = self.new.env } }
     {
         let scene = Scene {
@@ -106,11 +111,14 @@ impl<'n> KernelState<'n> {
         requires thin { IsTrue (are_thin (view_cells self.old.notebook.now)) }
         requires count { length self.old.newest.items ≡ length self.old.notebook.now }
         requires plain { IsPlain self.old.env }
-        ensures frame { IfOk result (λ frame. (code : Cell) → slice_get (view_cells self.old.notebook.now) cell ≡ Some code
+        ensures frame { IfOk result
+            (λ frame. (code : Cell) → slice_get (view_cells self.old.notebook.now) cell ≡ Some code
             → frame ≡ (outcome_at self.old cell code).frame) }
-        ensures env { OnOk result ((code : Cell) → slice_get (view_cells self.old.notebook.now) cell ≡ Some code
+        ensures env { OnOk result
+            ((code : Cell) → slice_get (view_cells self.old.notebook.now) cell ≡ Some code
             → self.new.env ≡ (outcome_at self.old cell code).env) }
-        ensures steps { OnOk result ((code : Cell) → slice_get (view_cells self.old.notebook.now) cell ≡ Some code
+        ensures steps { OnOk result
+            ((code : Cell) → slice_get (view_cells self.old.notebook.now) cell ≡ Some code
             → steps.new ≡ steps.old + (outcome_at self.old cell code).cost) }
         ensures plain { OnOk result (IsPlain self.new.env) }
         ensures others { self.new ≡ record self.old { env = self.new.env } }

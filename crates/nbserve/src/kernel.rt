@@ -59,7 +59,8 @@ impl<'n> Kernel<'n> {
     /// Takes a message of the visitor, whose answer is then to come. It is `Busy` where frames of an earlier answer are. Bytes that
     /// are no message are answered with that refusal.
     pub fn deliver(&mut self, alloc: Global, bytes: &[u8]) -> Result<Delivered, Memory>
-        ensures delivers { IfOk result (λ delivered. IsDelivery bytes.now self.old self.new delivered) }
+        ensures delivers { IfOk result
+            (λ delivered. IsDelivery bytes.now self.old self.new delivered) }
         ensures stands { OnOk result (Stands self.new) }
         ensures spoiled { self.old.spoiled ≡ true → IsErr result }
         ensures spoils { OnErr result (self.new.spoiled ≡ true) }
@@ -85,7 +86,8 @@ impl<'n> Kernel<'n> {
         alloc: Global,
         steps: &mut Steps<L>,
     ) -> Result<Stepped, Memory>
-        ensures steps { IfOk result (λ stepped. IsStep self.old self.new steps.old steps.new stepped) }
+        ensures steps { IfOk result
+            (λ stepped. IsStep self.old self.new steps.old steps.new stepped) }
         ensures stands { OnOk result (Stands self.new) }
         ensures idle { self.old.spoiled ≡ false → self.old.coming ≡ [] → IsOk result }
         ensures spoiled { self.old.spoiled ≡ true → IsErr result }

@@ -11,12 +11,14 @@ ghost use Rattle.py_tree.specs.declared.tree.CellCode.{CellCode};
 /// still to come are exactly the frames of a visitor alone who sends the messages that were taken; and the steps are exactly those of the cells
 /// that run for them.
 pub fn every_visit()
-    ensures solo { (nb : List CellCode) (budget : ℕ) (calls : List Call) (after : Visit) (count count_after : ℕ)
+    ensures solo { (nb : List CellCode) (budget : ℕ) (calls : List Call) (after : Visit)
+        (count count_after : ℕ)
         → Leads calls (begun nb budget) after count count_after
         → IsSolo nb budget (taken_by calls) (given_by calls) after count count_after }
 {}
 
 /// The messages of a visitor who only opens a notebook cost what the whole notebook costs.
 pub fn opening_costs()
-    ensures whole { (nb : List Cell) (budget : ℕ) → work nb budget (Open ∷ []) ≡ sum (whole nb budget []).costs }
+    ensures whole { (nb : List Cell) (budget : ℕ)
+        → work nb budget (Open ∷ []) ≡ sum (whole nb budget []).costs }
 {}

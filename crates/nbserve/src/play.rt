@@ -58,10 +58,13 @@ fn write_frame<O: Sink>(
     line: &mut Vec<u8>,
     out: &mut O,
 ) -> Result<(), PlayFault>
-    ensures written { OnOk result (Took (O.taken out.old) (O.taken out.new) (label.now ++ frame_text frame ++ 10 ∷ [])) }
-    ensures begun { OnErr result (TookPart (O.taken out.old) (O.taken out.new) (label.now ++ frame_text frame ++ 10 ∷ [])) }
+    ensures written { OnOk result
+        (Took (O.taken out.old) (O.taken out.new) (label.now ++ frame_text frame ++ 10 ∷ [])) }
+    ensures begun { OnErr result
+        (TookPart (O.taken out.old) (O.taken out.new) (label.now ++ frame_text frame ++ 10 ∷ [])) }
     ensures later { O.faults out.old ≤ O.faults out.new }
-    ensures failed { IfErr result (λ fault. fault ≡ PlayFault.WriteFault → Rose (O.faults out.old) (O.faults out.new)) }
+    ensures failed { IfErr result
+        (λ fault. fault ≡ PlayFault.WriteFault → Rose (O.faults out.old) (O.faults out.new)) }
 {
     set_line(alloc, line, label, &frame)?;
     write_all(out, line.as_slice())?;
@@ -77,12 +80,18 @@ fn drain<'n, O: Sink, L: Ledger>(
     out: &mut O,
     steps: &mut Steps<L>,
 ) -> Result<(), PlayFault>
-    ensures written { OnOk result (Took (O.taken out.old) (O.taken out.new) (labelled label.now (frames_in kernel.old.coming))) }
-    ensures begun { OnErr result (TookPart (O.taken out.old) (O.taken out.new) (labelled label.now (frames_in kernel.old.coming))) }
+    ensures written { OnOk result
+        (Took (O.taken out.old) (O.taken out.new)
+        (labelled label.now (frames_in kernel.old.coming))) }
+    ensures begun { OnErr result
+        (TookPart (O.taken out.old) (O.taken out.new)
+        (labelled label.now (frames_in kernel.old.coming))) }
     ensures later { O.faults out.old ≤ O.faults out.new }
     ensures cut { IfErr result (λ fault. fault ≡ PlayFault.WriteFault
-        → IsCut label.now kernel.old.coming (O.taken out.old) (O.taken out.new) steps.old steps.new) }
-    ensures failed { IfErr result (λ fault. fault ≡ PlayFault.WriteFault → Rose (O.faults out.old) (O.faults out.new)) }
+        → IsCut label.now kernel.old.coming (O.taken out.old)
+        (O.taken out.new) steps.old steps.new) }
+    ensures failed { IfErr result
+        (λ fault. fault ≡ PlayFault.WriteFault → Rose (O.faults out.old) (O.faults out.new)) }
     ensures steps { OnOk result (steps.new ≡ steps.old + cost_of_parts kernel.old.coming) }
     ensures over { OnOk result (kernel.new.coming ≡ []) }
     ensures state { OnOk result (kernel.new.state ≡ kernel.old.state) }
@@ -110,21 +119,30 @@ pub fn play<O: Sink, L: Ledger>(
     requires { IsTrue (are_thin (view_cells notebook.now)) }
 
     // These are the frames of a visitor alone who sends these messages.
-    ensures written { OnOk result ((ms : List Message) → AreMessages (map (λ m. m.now) messages.now) ms
-        → Took (O.taken out.old) (O.taken out.new) (labelled label.now (solo (view_cells notebook.now) budget ms))) }
-    ensures steps { OnOk result ((ms : List Message) → AreMessages (map (λ m. m.now) messages.now) ms
+    ensures written { OnOk result
+        ((ms : List Message) → AreMessages (map (λ m. m.now) messages.now) ms
+        → Took (O.taken out.old) (O.taken out.new)
+        (labelled label.now (solo (view_cells notebook.now) budget ms))) }
+    ensures steps { OnOk result
+        ((ms : List Message) → AreMessages (map (λ m. m.now) messages.now) ms
         → steps.new ≡ steps.old + work (view_cells notebook.now) budget ms) }
 
     // Where a fault comes in the middle, a beginning of their text was written.
-    ensures begun { OnErr result ((ms : List Message) → AreMessages (map (λ m. m.now) messages.now) ms
-        → TookPart (O.taken out.old) (O.taken out.new) (labelled label.now (solo (view_cells notebook.now) budget ms))) }
+    ensures begun { OnErr result
+        ((ms : List Message) → AreMessages (map (λ m. m.now) messages.now) ms
+        → TookPart (O.taken out.old) (O.taken out.new)
+        (labelled label.now (solo (view_cells notebook.now) budget ms))) }
 
     // Where a write fails, it is that of the last frame that a step gave: the lines of the frames before it were written, and no later
     // steps are counted.
-    ensures cut { IfErr result (λ fault. fault ≡ PlayFault.WriteFault → (ms : List Message) → AreMessages (map (λ m. m.now) messages.now) ms
-        → IsCut label.now (parts_from (view_cells notebook.now) budget Before ms) (O.taken out.old) (O.taken out.new) steps.old steps.new) }
+    ensures cut { IfErr result
+        (λ fault. fault ≡ PlayFault.WriteFault → (ms : List Message)
+        → AreMessages (map (λ m. m.now) messages.now) ms
+        → IsCut label.now (parts_from (view_cells notebook.now) budget Before ms) (O.taken out.old)
+        (O.taken out.new) steps.old steps.new) }
     ensures later { O.faults out.old ≤ O.faults out.new }
-    ensures failed { IfErr result (λ fault. fault ≡ PlayFault.WriteFault → Rose (O.faults out.old) (O.faults out.new)) }
+    ensures failed { IfErr result
+        (λ fault. fault ≡ PlayFault.WriteFault → Rose (O.faults out.old) (O.faults out.new)) }
 {
     let mut kernel = open(alloc, notebook, budget)?;
     let mut line = Vec::new(alloc);

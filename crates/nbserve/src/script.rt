@@ -37,7 +37,8 @@ fn first_line(bytes: &[u8]) -> (&[u8], &[u8])
 
 // The text of the message that the line sends; none where it sends none.
 fn sent_text(line: &[u8]) -> Option<&[u8]>
-    ensures { MatchOption result ((m : Message) → IsSend line.now m → ⊥) (λ text. (m : Message) × IsSend line.now m × IsMessage text.now m) }
+    ensures { MatchOption result ((m : Message) → IsSend line.now m → ⊥)
+        (λ text. (m : Message) × IsSend line.now m × IsMessage text.now m) }
 {
     let text = line.strip_prefix(SEND_WORDS)?;
     match read_text(text) {

@@ -24,7 +24,9 @@ impl<'n> KernelState<'n> {
     ) -> Result<Stepped, Memory>
         requires { IsKept self.old }
         ensures kept { OnOk result (IsKept self.new) }
-        ensures steps { IfOk result (λ stepped. IsStep (visit_of false self.old) (visit_of false self.new) steps.old steps.new stepped) }
+        ensures steps { IfOk result
+            (λ stepped. IsStep (visit_of false self.old)
+            (visit_of false self.new) steps.old steps.new stepped) }
         ensures idle { self.old.coming ≡ coming.Nothing → IsOk result }
         ensures newest { OnErr result (self.new.newest ≡ self.old.newest) }
     {
@@ -55,7 +57,9 @@ impl<'n> KernelState<'n> {
         requires kept { IsKept (record self.old { coming = coming.Results cells taken }) }
         ensures kept { OnOk result (IsKept self.new) }
         ensures gives { IfOk result (λ frame.
-            Gives frame (visit_of false (record self.old { coming = coming.Results cells.entry taken })) (visit_of false self.new) steps.old steps.new) }
+            Gives frame (visit_of false
+            (record self.old { coming = coming.Results cells.entry taken }))
+            (visit_of false self.new) steps.old steps.new) }
         ensures newest { OnErr result (self.new.newest ≡ self.old.newest) }
     {
         let Some(cell) = cells.items().get(taken) else {

@@ -102,7 +102,8 @@ impl From<ScriptFault> for Stop {
 
 /// Writes the text of a status, and answers the status, or that the text couldn't be written.
 pub fn end_with<O: Sink>(out: &mut O, text: &[u8], status: u8) -> u8
-    ensures { Ended status text.now result (O.taken out.old) (O.taken out.new) (Rose (O.faults out.old) (O.faults out.new)) }
+    ensures { Ended status text.now result (O.taken out.old) (O.taken out.new)
+        (Rose (O.faults out.old) (O.faults out.new)) }
 {
     match write_all(out, text) {
         Ok(()) => status,
@@ -112,7 +113,8 @@ pub fn end_with<O: Sink>(out: &mut O, text: &[u8], status: u8) -> u8
 
 // Writes why a notebook is refused.
 fn refuse<O: Sink>(alloc: Global, why: &Refusal, out: &mut O) -> u8
-    ensures { Ended 1 (program.refusal_text (refusal_of why.now)) result (O.taken out.old) (O.taken out.new)
+    ensures { Ended 1 (program.refusal_text (refusal_of why.now)) result (O.taken out.old)
+        (O.taken out.new)
         (Rose (O.faults out.old) (O.faults out.new)) }
 {
     match refusal_text(alloc, why) {
@@ -123,7 +125,8 @@ fn refuse<O: Sink>(alloc: Global, why: &Refusal, out: &mut O) -> u8
 
 // Writes at which line bytes are no script.
 fn refuse_script<O: Sink>(alloc: Global, line: u32, out: &mut O) -> u8
-    ensures { Ended 6 (scripts.fault_text line) result (O.taken out.old) (O.taken out.new) (Rose (O.faults out.old) (O.faults out.new)) }
+    ensures { Ended 6 (scripts.fault_text line) result (O.taken out.old) (O.taken out.new)
+        (Rose (O.faults out.old) (O.faults out.new)) }
 {
     match format!(in alloc; "script {line}\n") {
         Ok(text) => end_with(out, text.as_bytes(), NO_SCRIPT),
@@ -133,7 +136,8 @@ fn refuse_script<O: Sink>(alloc: Global, line: u32, out: &mut O) -> u8
 
 /// Writes why a command isn't carried out, and answers the status. Nothing is written where memory is wanting.
 pub fn end_stopped<O: Sink>(alloc: Global, stop: &Stop, out: &mut O) -> u8
-    ensures ended { Ended (status_of stop.now) (stop_line stop.now) result (O.taken out.old) (O.taken out.new)
+    ensures ended { Ended (status_of stop.now) (stop_line stop.now) result (O.taken out.old)
+        (O.taken out.new)
         (Rose (O.faults out.old) (O.faults out.new)) }
     ensures wanting { stop.now ≡ Stop.Memory → (result ≡ 5) × (out.new ≡ out.old) }
 {

@@ -55,7 +55,9 @@ fn one_name(alloc: Global, name: &str) -> Result<Lines, Memory>
 fn set_element(alloc: Global, env: &mut Env, name: &str, value: &Value) -> Result<(), Memory>
     requires there { IsSome (element_in env.old name.now) }
     requires sorted { IsSortedMap env.old }
-    ensures { OnOk result (env.new ≡ with_element name.now (element_in env.old name.now) (Some (data_of value.now)) env.old) }
+    ensures { OnOk result
+        (env.new ≡ with_element name.now (element_in env.old name.now)
+        (Some (data_of value.now)) env.old) }
 {
     if let Some(Binding::Plain(Value::Element(mut element))) = env.remove(name) {
         element.set_present(copy(alloc, value)?);
@@ -70,7 +72,9 @@ fn set_element(alloc: Global, env: &mut Env, name: &str, value: &Value) -> Resul
 // Drops the values that are kept of elements which these cells create.
 fn drop_created(present: &mut Present, notebook: &Notebook, cells: &[u32])
     requires { All (λ c. c < length notebook.now) cells.now }
-    ensures { present.new ≡ where_name (λ x. not (is_among x (flat_map (elements_of (view_cells notebook.now)) cells.now))) present.old }
+    ensures { present.new ≡ where_name
+        (λ x. not (is_among x (flat_map (elements_of (view_cells notebook.now)) cells.now)))
+        present.old }
 {
     for cell in cells {
         for name in notebook.elements_of(*cell).items() {
@@ -85,7 +89,9 @@ impl<'n> KernelState<'n> {
         requires kept { IsKept self.old }
         requires free { self.old.coming ≡ coming.Nothing }
         ensures kept { OnOk result (IsKept self.new) }
-        ensures taken { OnOk result ((m : answer.Message) × IsMessage bytes.now m × Takes m (visit_of false self.old) (visit_of false self.new)) }
+        ensures taken { OnOk result
+            ((m : answer.Message) × IsMessage bytes.now m
+            × Takes m (visit_of false self.old) (visit_of false self.new)) }
         ensures newest { self.new.newest ≡ self.old.newest }
     {
         match read_message(bytes) {
@@ -128,7 +134,9 @@ impl<'n> KernelState<'n> {
         requires free { self.old.coming ≡ coming.Nothing }
         requires on { self.old.on ≡ true }
         ensures kept { OnOk result (IsKept self.new) }
-        ensures taken { OnOk result (Takes (Set ((name.now, V.Int number) ∷ [])) (visit_of false self.old) (visit_of false self.new)) }
+        ensures taken { OnOk result
+            (Takes (Set ((name.now, V.Int number) ∷ [])) (visit_of false self.old)
+            (visit_of false self.new)) }
         ensures newest { self.new.newest ≡ self.old.newest }
     {
         let Some(element) = element_in(&self.env, name) else {
@@ -152,9 +160,13 @@ impl<'n> KernelState<'n> {
         requires free { self.old.coming ≡ coming.Nothing }
         requires on { self.old.on ≡ true }
         requires there { IsSome (element_in self.old.env name.now) }
-        ensures kept { OnOk result ((sent : Value) → value_set self.old.env (name.now, sent) ≡ Some (data_of value) → IsKept self.new) }
-        ensures taken { OnOk result ((sent : Value) → value_set self.old.env (name.now, sent) ≡ Some (data_of value)
-            → Takes (Set ((name.now, sent) ∷ [])) (visit_of false self.old) (visit_of false self.new)) }
+        ensures kept { OnOk result
+            ((sent : Value) → value_set self.old.env (name.now, sent) ≡ Some (data_of value)
+            → IsKept self.new) }
+        ensures taken { OnOk result
+            ((sent : Value) → value_set self.old.env (name.now, sent) ≡ Some (data_of value)
+            → Takes (Set ((name.now, sent) ∷ [])) (visit_of false self.old)
+            (visit_of false self.new)) }
         ensures newest { self.new.newest ≡ self.old.newest }
     {
         set_element(alloc, &mut self.env, name, &value)?;

@@ -40,7 +40,8 @@ const LAST_LINE: &[u8] = b"end runs 0 hits 0\n";
 // The bytes of a file, or one more than the limit where it has more.
 fn bytes_in<F: Files>(alloc: Global, files: &mut F, file: &str) -> Result<Vec<u8>, Stop>
     ensures read { IfOk result (λ bytes. AreRead (F.holds files.old) file.now bytes.items) }
-    ensures unread { IfErr result (λ why. IsUnread why (Rose (F.faults files.old) (F.faults files.new))) }
+    ensures unread { IfErr result
+        (λ why. IsUnread why (Rose (F.faults files.old) (F.faults files.new))) }
     ensures same { (other : List ℕ) → F.holds files.new other ≡ F.holds files.old other }
     ensures later { F.faults files.old ≤ F.faults files.new }
 {
@@ -54,7 +55,9 @@ fn bytes_in<F: Files>(alloc: Global, files: &mut F, file: &str) -> Result<Vec<u8
 // The notebook of a file.
 fn notebook_in<F: Files>(alloc: Global, files: &mut F, file: &str) -> Result<Notebook, Stop>
     ensures loaded { IfOk result (λ nb. IsLoaded (F.holds files.old) file.now (view_cells nb)) }
-    ensures unloaded { IfErr result (λ why. IsUnloaded (F.holds files.old) (Rose (F.faults files.old) (F.faults files.new)) file.now why) }
+    ensures unloaded { IfErr result
+        (λ why. IsUnloaded (F.holds files.old)
+        (Rose (F.faults files.old) (F.faults files.new)) file.now why) }
     ensures same { (other : List ℕ) → F.holds files.new other ≡ F.holds files.old other }
     ensures later { F.faults files.old ≤ F.faults files.new }
 {
@@ -75,7 +78,8 @@ fn perform<O: Sink, L: Ledger>(
     requires { IsTrue (are_thin (view_cells notebook.now)) }
     ensures { (ms : List Message) → AreMessages (map (λ m. m.now) messages.now) ms
         → IsDone (view_cells notebook.now) ms label.now last.now result
-        (O.taken out.old) (O.taken out.new) (Rose (O.faults out.old) (O.faults out.new)) steps.old steps.new }
+        (O.taken out.old) (O.taken out.new)
+        (Rose (O.faults out.old) (O.faults out.new)) steps.old steps.new }
 {
     match play(alloc, notebook, USUAL_BUDGET, label, messages, out, steps) {
         Ok(()) => end_with(out, last, DONE),
@@ -94,9 +98,13 @@ fn perform_script<F: Files, O: Sink, L: Ledger>(
     steps: &mut Steps<L>,
 ) -> Result<u8, Stop>
     requires { IsTrue (are_thin (view_cells notebook.now)) }
-    ensures played { IfOk result (λ status. IsPlayed (F.holds files.old) file.now (view_cells notebook.now) status
-        (O.taken out.old) (O.taken out.new) (Rose (O.faults out.old) (O.faults out.new)) steps.old steps.new) }
-    ensures unplayed { IfErr result (λ why. IsUnplayed (F.holds files.old) (Rose (F.faults files.old) (F.faults files.new)) file.now why) }
+    ensures played { IfOk result
+        (λ status. IsPlayed (F.holds files.old) file.now (view_cells notebook.now) status
+        (O.taken out.old) (O.taken out.new)
+        (Rose (O.faults out.old) (O.faults out.new)) steps.old steps.new) }
+    ensures unplayed { IfErr result
+        (λ why. IsUnplayed (F.holds files.old)
+        (Rose (F.faults files.old) (F.faults files.new)) file.now why) }
     ensures kept { OnErr result (out.new ≡ out.old) }
     ensures still { OnErr result (steps.new ≡ steps.old) }
 {
@@ -122,9 +130,12 @@ fn carry_out<F: Files, O: Sink, L: Ledger>(
     out: &mut O,
     steps: &mut Steps<L>,
 ) -> Result<u8, Stop>
-    ensures carried { IfOk result (λ status. Carried (F.holds files.old) (map string_bytes words.now) status
-        (O.taken out.old) (O.taken out.new) (Rose (O.faults out.old) (O.faults out.new)) steps.old steps.new) }
-    ensures stopped { IfErr result (λ why. IsStopped (F.holds files.old) (Rose (F.faults files.old) (F.faults files.new))
+    ensures carried { IfOk result
+        (λ status. Carried (F.holds files.old) (map string_bytes words.now) status
+        (O.taken out.old) (O.taken out.new)
+        (Rose (O.faults out.old) (O.faults out.new)) steps.old steps.new) }
+    ensures stopped { IfErr result
+        (λ why. IsStopped (F.holds files.old) (Rose (F.faults files.old) (F.faults files.new))
         (map string_bytes words.now) why) }
     ensures kept { OnErr result (out.new ≡ out.old) }
     ensures still { OnErr result (steps.new ≡ steps.old) }
@@ -161,7 +172,8 @@ pub fn run_words<F: Files, O: Sink, L: Ledger>(
     // What was written: the frames of the opening or the text of the script at 0, why the notebook is refused at 1, `usage` at 2,
     // `read fault` at 3, why the bytes of the script are none at 6, and a beginning of one of these at 4 and 5. It also says what 0, 1, 2
     // and 6 tell of the words and of the files.
-    ensures wrote { Wrote (F.holds files.old) (Rose (F.faults files.old) (F.faults files.new)) (Rose (O.faults out.old) (O.faults out.new))
+    ensures wrote { Wrote (F.holds files.old) (Rose (F.faults files.old) (F.faults files.new))
+        (Rose (O.faults out.old) (O.faults out.new))
         (map string_bytes words.now) result (O.taken out.old) (O.taken out.new) }
 
     // A fault has its cause.
@@ -169,42 +181,51 @@ pub fn run_words<F: Files, O: Sink, L: Ledger>(
     ensures write { result ≡ 4 → Rose (O.faults out.old) (O.faults out.new) }
 
     // Words that are no form are answered so, unless that can't be written.
-    ensures usage { command_of (map string_bytes words.now) ≡ None → (result ≡ 2) ⊎ (result ≡ 4) ⊎ (result ≡ 5) }
+    ensures usage { command_of (map string_bytes words.now) ≡ None → (result ≡ 2) ⊎ (result ≡ 4)
+        ⊎ (result ≡ 5) }
 
     // A command that can be carried out is, unless a fault comes or memory is wanting.
-    ensures accepted { (nb : List Cell) (ms : List Message) → Works (F.holds files.old) (map string_bytes words.now) nb ms
+    ensures accepted { (nb : List Cell) (ms : List Message)
+        → Works (F.holds files.old) (map string_bytes words.now) nb ms
         → (result ≡ 0) ⊎ (result ≡ 3) ⊎ (result ≡ 4) ⊎ (result ≡ 5) }
 
     // Where no count of faults rises, it is carried out, or memory is wanting.
-    ensures complete { (nb : List Cell) (ms : List Message) → Works (F.holds files.old) (map string_bytes words.now) nb ms
-        → (Rose (F.faults files.old) (F.faults files.new) → ⊥) → (Rose (O.faults out.old) (O.faults out.new) → ⊥)
+    ensures complete { (nb : List Cell) (ms : List Message)
+        → Works (F.holds files.old) (map string_bytes words.now) nb ms
+        → (Rose (F.faults files.old) (F.faults files.new) → ⊥)
+        → (Rose (O.faults out.old) (O.faults out.new) → ⊥)
         → (result ≡ 0) ⊎ (result ≡ 5) }
 
     // The steps of all cells that run for its messages are counted.
-    ensures steps { result ≡ 0 → (nb : List Cell) (ms : List Message) → Works (F.holds files.old) (map string_bytes words.now) nb ms
+    ensures steps { result ≡ 0 → (nb : List Cell) (ms : List Message)
+        → Works (F.holds files.old) (map string_bytes words.now) nb ms
         → steps.new ≡ steps.old + work nb usual_budget ms }
 
     // Where a write fails and no count of read faults rises, a command that can be carried out is cut at the line of the last frame that a
     // step gave, or in its last line: all before it was written, and no later steps are counted.
     ensures cut { result ≡ 4 → (asked : program.Command) (nb : List Cell) (ms : List Message)
-        → command_of (map string_bytes words.now) ≡ Some asked → Works (F.holds files.old) (map string_bytes words.now) nb ms
+        → command_of (map string_bytes words.now) ≡ Some asked
+        → Works (F.holds files.old) (map string_bytes words.now) nb ms
         → (Rose (F.faults files.old) (F.faults files.new) → ⊥)
         → IsCutOff (label_of asked) (last_of asked) (parts_from nb usual_budget Before ms)
         (O.taken out.old) (O.taken out.new) steps.old steps.new }
 
     // A notebook that isn't accepted is refused, unless a fault comes or memory is wanting.
-    ensures refused { (asked : program.Command) (all : List ℕ) → command_of (map string_bytes words.now) ≡ Some asked
+    ensures refused { (asked : program.Command) (all : List ℕ)
+        → command_of (map string_bytes words.now) ≡ Some asked
         → F.holds files.old (notebook_of asked) ≡ Some (Some all) → IsRefused (read_of all)
         → (result ≡ 1) ⊎ (result ≡ 3) ⊎ (result ≡ 4) ⊎ (result ≡ 5) }
 
     // Bytes that are no script are answered so, where the notebook is accepted, unless a fault comes or memory is wanting.
-    ensures no_script { (file script all text : List ℕ) (nb : List Cell) → command_of (map string_bytes words.now) ≡ Some (program.Play file script)
+    ensures no_script { (file script all text : List ℕ) (nb : List Cell)
+        → command_of (map string_bytes words.now) ≡ Some (program.Play file script)
         → F.holds files.old file ≡ Some (Some all) → IsAccepted (read_of all) nb
         → F.holds files.old script ≡ Some (Some text) → IsNoScript (read_of text)
         → (result ≡ 6) ⊎ (result ≡ 3) ⊎ (result ≡ 4) ⊎ (result ≡ 5) }
 
     // No step is counted before all tests are passed.
-    ensures unrun { (result ≡ 1) ⊎ (result ≡ 2) ⊎ (result ≡ 3) ⊎ (result ≡ 6) → steps.new ≡ steps.old }
+    ensures unrun { (result ≡ 1) ⊎ (result ≡ 2) ⊎ (result ≡ 3) ⊎ (result ≡ 6)
+        → steps.new ≡ steps.old }
 {
     match carry_out(alloc, words, files, out, steps) {
         Ok(status) => status,

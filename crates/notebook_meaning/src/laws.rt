@@ -30,8 +30,10 @@ ghost use Rattle.notebook_meaning.specs.declared.frames.OutputKind.TheVariants a
 
 /// The order lists every cell exactly where no cell lies on a cycle, and it lists no cell of a cycle.
 pub fn order_and_cycles()
-    ensures free { (nb : List Cell) → ((c : ℕ) → c < length nb → is_in c (order nb) ≡ true) → NoneCyclic nb }
-    ensures lists { (nb : List Cell) → NoneCyclic nb → (c : ℕ) → c < length nb → is_in c (order nb) ≡ true }
+    ensures free { (nb : List Cell) → ((c : ℕ) → c < length nb → is_in c (order nb) ≡ true)
+        → NoneCyclic nb }
+    ensures lists { (nb : List Cell) → NoneCyclic nb → (c : ℕ) → c < length nb
+        → is_in c (order nb) ≡ true }
     ensures none { (nb : List Cell) (c : ℕ) → is_in c (order nb) ≡ true → LiesOnCycle nb c → ⊥ }
 {}
 
@@ -46,8 +48,10 @@ pub fn what_runs_again()
 
 /// An expression and a block have one run each, its beginnings that are cut, and each budget picks one of them.
 pub fn one_run()
-    ensures expression { (scene : Scene) (env : Env) (line : ℕ) (t : Tree) → HasOneRun (value_of scene env line t) }
-    ensures block { (scene : Scene) (env : Env) (block : Stmts) → HasOneRun (block_of scene env block) }
+    ensures expression { (scene : Scene) (env : Env) (line : ℕ) (t : Tree)
+        → HasOneRun (value_of scene env line t) }
+    ensures block { (scene : Scene) (env : Env) (block : Stmts)
+        → HasOneRun (block_of scene env block) }
 {}
 
 /// No bytes are two messages.
@@ -89,30 +93,40 @@ pub fn worked_slider()
     ensures text { once_text with_slider ≡ with_slider_text }
     ensures costs { (whole with_slider usual_budget []).costs ≡ 1 ∷ 4 ∷ 5 ∷ [] }
     ensures work { sum (whole with_slider usual_budget []).costs ≡ 10 }
-    ensures present { map (λ (f : CellFrame). f.output) (whole with_slider usual_budget s_at_four).frames
+    ensures present { map (λ (f : CellFrame). f.output)
+        (whole with_slider usual_budget s_at_four).frames
         ≡ None ∷ None ∷ Some (record { text = codes "5"; kind = output.Plain }) ∷ [] }
     ensures own { (e : ElementData) → e.name ≡ codes "s"
-        → runs (record { own = codes "s" ∷ []; present = [] }) ((codes "s", Plain (V.Element e)) ∷ []) reads_s 10 ≡ Failed RuntimeError 5 7 [] }
+        → runs (record { own = codes "s" ∷ []; present = [] })
+        ((codes "s", Plain (V.Element e)) ∷ []) reads_s 10 ≡ Failed RuntimeError 5 7 [] }
 {}
 
 /// What a visitor of that notebook is sent who opens it, sets the slider to 4 and then to 11, which it doesn't admit, and the steps of
 /// the cells that run for each answer.
 pub fn worked_answers()
     ensures frames { frame_lines (frames_in (parts_from with_slider usual_budget Before
-        (Open ∷ Set ((codes "s", V.Int (pos 4)) ∷ []) ∷ Set ((codes "s", V.Int (pos 11)) ∷ []) ∷ []))) ≡ with_slider_answers }
+        (Open ∷ Set ((codes "s", V.Int (pos 4)) ∷ [])
+        ∷ Set ((codes "s", V.Int (pos 11)) ∷ []) ∷ []))) ≡ with_slider_answers }
     ensures opening { cost_of_parts (answer with_slider usual_budget Before Open).parts ≡ 10 }
-    ensures set { cost_of_parts (answer with_slider usual_budget (On []) (Set ((codes "s", V.Int (pos 4)) ∷ []))).parts ≡ 5 }
-    ensures refused { cost_of_parts (answer with_slider usual_budget (On s_at_four) (Set ((codes "s", V.Int (pos 11)) ∷ []))).parts ≡ 0 }
+    ensures set { cost_of_parts
+        (answer with_slider usual_budget (On []) (Set ((codes "s", V.Int (pos 4)) ∷ []))).parts
+        ≡ 5 }
+    ensures refused { cost_of_parts
+        (answer with_slider usual_budget (On s_at_four)
+        (Set ((codes "s", V.Int (pos 11)) ∷ []))).parts ≡ 0 }
 {}
 
 /// What is in being in an accepted notebook where a visitor's messages have led: an element of each name that a cell creates which has
 /// ended ok, and no other; and each present value is that of an element in being, which admits it as it is.
 pub fn elements_in_being()
-    ensures being { (nb : List Cell) → are_thin nb ≡ true → NoneDoubled nb → NoneCyclic nb → (budget : ℕ) (ms : List Message) (ui : Map Value)
+    ensures being { (nb : List Cell) → are_thin nb ≡ true → NoneDoubled nb → NoneCyclic nb
+        → (budget : ℕ) (ms : List Message) (ui : Map Value)
         → state_after nb budget Before ms ≡ On ui → (x : Name)
         → (((e : ElementData) × (element_in (whole nb budget ui).env x ≡ Some e))
-        ↔ ((c : ℕ) × (is_among x (elements_of nb c) ≡ true) × (ended_ok (whole nb budget ui).frames c ≡ true))) }
-    ensures present { (nb : List Cell) → are_thin nb ≡ true → NoneDoubled nb → NoneCyclic nb → (budget : ℕ) (ms : List Message) (ui : Map Value)
+        ↔ ((c : ℕ) × (is_among x (elements_of nb c) ≡ true)
+        × (ended_ok (whole nb budget ui).frames c ≡ true))) }
+    ensures present { (nb : List Cell) → are_thin nb ≡ true → NoneDoubled nb → NoneCyclic nb
+        → (budget : ℕ) (ms : List Message) (ui : Map Value)
         → state_after nb budget Before ms ≡ On ui → (x : Name) (v : Value) → look_up x ui ≡ Some v
         → (e : ElementData) × (d : Data) × (element_in (whole nb budget ui).env x ≡ Some e)
         × (value_set (whole nb budget ui).env (x, v) ≡ Some d) × (v ≡ value_in d) }
@@ -120,7 +134,8 @@ pub fn elements_in_being()
 
 /// Bytes that are a script have no line that can't stand where it stands, and say one thing only; and other bytes have no two first such lines.
 pub fn scripts_are_read_one_way()
-    ensures script { (bytes : List ℕ) (s : Script) → IsScript bytes s → (k : ℕ) → FaultAt bytes k → ⊥ }
+    ensures script { (bytes : List ℕ) (s : Script) → IsScript bytes s
+        → (k : ℕ) → FaultAt bytes k → ⊥ }
     ensures one { (bytes : List ℕ) (s t : Script) → IsScript bytes s → IsScript bytes t → s ≡ t }
     ensures line { (bytes : List ℕ) (k l : ℕ) → FaultAt bytes k → FaultAt bytes l → k ≡ l }
 {}
@@ -128,9 +143,12 @@ pub fn scripts_are_read_one_way()
 /// The script of a visitor who opens the notebook with a slider and sets it to 4 and then to 11, and what is written for it; the empty script;
 /// and the first lines that can't stand where they stand of a script that is an empty line, and of one in which the visitor 2 sends something.
 pub fn worked_scripts()
-    ensures read { IsScript with_slider_script (Visitor (Open ∷ Set ((codes "s", V.Int (pos 4)) ∷ []) ∷ Set ((codes "s", V.Int (pos 11)) ∷ []) ∷ [])) }
+    ensures read { IsScript with_slider_script
+        (Visitor (Open ∷ Set ((codes "s", V.Int (pos 4)) ∷ [])
+        ∷ Set ((codes "s", V.Int (pos 11)) ∷ []) ∷ [])) }
     ensures played { script_text with_slider usual_budget
-        (Visitor (Open ∷ Set ((codes "s", V.Int (pos 4)) ∷ []) ∷ Set ((codes "s", V.Int (pos 11)) ∷ []) ∷ [])) ≡ with_slider_played }
+        (Visitor (Open ∷ Set ((codes "s", V.Int (pos 4)) ∷ [])
+        ∷ Set ((codes "s", V.Int (pos 11)) ∷ []) ∷ [])) ≡ with_slider_played }
     ensures nobody { IsScript [] Nobody }
     ensures empty_line { FaultAt (codes "\n") 1 }
     ensures other_visitor { FaultAt (codes "join 1\nsend 2 x") 2 }

@@ -32,7 +32,9 @@ fn is_one_of(name: &Text, names: &Lines) -> bool
 /// The present value of an element, which can't be had in the cell that creates it.
 #[tactic(auto, using(crate::proofs::Present::seen))]
 pub fn present_of(alloc: Global, scene: &Scene, value: &Value, line: u32) -> Result<Value, Stop>
-    ensures { (left : ℕ) → Meets (λ v. v) result left (spend (meaning.present_of (scene_of scene.now) line value.now) left []) }
+    ensures { (left : ℕ)
+        → Meets (λ v. v) result left
+        (spend (meaning.present_of (scene_of scene.now) line value.now) left []) }
 {
     let Value::Element(element) = value else {
         return Err(Stop::Fault {
@@ -51,7 +53,8 @@ pub fn present_of(alloc: Global, scene: &Scene, value: &Value, line: u32) -> Res
 
 // Whether `mo` is bound to the module.
 fn read_module(env: &Env, line: u32) -> Result<(), Stop>
-    ensures { (left : ℕ) → Meets unit result left (spend (read_module line (look_up (codes "mo") env.now)) left []) }
+    ensures { (left : ℕ)
+        → Meets unit result left (spend (read_module line (look_up (codes "mo") env.now)) left []) }
 {
     match env.get("mo") {
         Some(Binding::Module) => Ok(()),
@@ -74,7 +77,9 @@ fn make_element(
     scene: &Scene,
     line: u32,
 ) -> Result<Value, Stop>
-    ensures { (left : ℕ) → Meets (λ v. v) result left (spend (made_at (scene_of scene.now) line name.now kind places.items) left []) }
+    ensures { (left : ℕ)
+        → Meets (λ v. v) result left
+        (spend (made_at (scene_of scene.now) line name.now kind places.items) left []) }
 {
     let label = Text::of(String::from_str(alloc, name)?);
     let args = Args {
@@ -105,7 +110,8 @@ fn element(
 ) -> Result<Value, Stop>
     requires { IsTrue (are_levelled_trees (views arguments.now)) }
     ensures meets { Meets (λ v. v) result left.new
-        (spend (element_of (scene_of scene.now) env.now line name.now kind (views arguments.now)) left.old []) }
+        (spend (element_of (scene_of scene.now) env.now line name.now kind
+        (views arguments.now)) left.old []) }
     ensures used { left.new ≤ left.old }
 {
     charge(left, 1, line)?;
@@ -129,7 +135,8 @@ pub fn called(
 ) -> Result<Value, Stop>
     requires { IsTrue (are_levelled_trees (views arguments.now)) }
     ensures meets { Meets (λ v. v) result left.new
-        (spend (calls_for (scene_of scene.now) env.now line targets.now (view callee.now) (views arguments.now)) left.old []) }
+        (spend (calls_for (scene_of scene.now) env.now line targets.now (view callee.now)
+        (views arguments.now)) left.old []) }
     ensures used { left.new ≤ left.old }
 {
     if let [name] = targets {

@@ -23,7 +23,8 @@ use std::alloc::Global;
 
 // The value that a name is bound to.
 fn bound_value<'a>(env: &'a Env, name: &str, line: u32) -> Result<&'a Value, Stop>
-    ensures { (left : ℕ) → Meets (λ v. v.now) result left (spend (read line (look_up name.now env.now)) left []) }
+    ensures { (left : ℕ)
+        → Meets (λ v. v.now) result left (spend (read line (look_up name.now env.now)) left []) }
 {
     match env.get(name) {
         Some(Binding::Plain(value)) => Ok(value),
@@ -46,7 +47,8 @@ fn is_value(name: &Spelling) -> bool
 
 // The sum of two values.
 fn sum(left: &Value, right: &Value, line: u32) -> Result<Value, Stop>
-    ensures { (rest : ℕ) → Meets (λ v. v) result rest (spend (result_at line (sum_of left.now right.now)) rest []) }
+    ensures { (rest : ℕ)
+        → Meets (λ v. v) result rest (spend (result_at line (sum_of left.now right.now)) rest []) }
 {
     match add(left, right) {
         Ok(value) => Ok(value),
@@ -64,7 +66,9 @@ fn present_of_name(
     left: &mut u64,
 ) -> Result<Value, Stop>
     ensures meets { Meets (λ v. v) result left.new
-        (spend (value_of (scene_of scene.now) env.now line (trees.name name.now) followed_by meaning.present_of (scene_of scene.now) line) left.old []) }
+        (spend (value_of (scene_of scene.now) env.now line
+        (trees.name name.now) followed_by meaning.present_of
+        (scene_of scene.now) line) left.old []) }
     ensures used { left.new ≤ left.old }
 {
     charge(left, 1, line)?;
@@ -81,7 +85,8 @@ pub fn eval(
     left: &mut u64,
 ) -> Result<Value, Stop>
     requires { IsTrue (is_levelled (view tree.now)) }
-    ensures meets { Meets (λ v. v) result left.new (spend (value_of (scene_of scene.now) env.now line (view tree.now)) left.old []) }
+    ensures meets { Meets (λ v. v) result left.new
+        (spend (value_of (scene_of scene.now) env.now line (view tree.now)) left.old []) }
     ensures used { left.new ≤ left.old }
     ensures paid { OnOk result (left.new < left.old) }
 {
@@ -118,7 +123,8 @@ pub fn eval_all(
     left: &mut u64,
 ) -> Result<Vec<Value>, Stop>
     requires { IsTrue (are_levelled_trees (views trees.now)) }
-    ensures meets { Meets (λ vs. vs.items) result left.new (spend (values_after [] (scene_of scene.now) env.now line (views trees.now)) left.old []) }
+    ensures meets { Meets (λ vs. vs.items) result left.new
+        (spend (values_after [] (scene_of scene.now) env.now line (views trees.now)) left.old []) }
     ensures used { left.new ≤ left.old }
 {
     let mut values = Vec::new(alloc);

@@ -38,8 +38,10 @@ fn bind_targets(
     line: u32,
     env: &mut Env,
 ) -> Result<(), Stop>
-    ensures meets { (left : ℕ) → Meets (λ _. env.new) result left (spend (bind line targets.now value env.old) left []) }
-    ensures kept { where_name (λ x. not (is_among x targets.now)) env.new ≡ where_name (λ x. not (is_among x targets.now)) env.old }
+    ensures meets { (left : ℕ)
+        → Meets (λ _. env.new) result left (spend (bind line targets.now value env.old) left []) }
+    ensures kept { where_name (λ x. not (is_among x targets.now)) env.new
+        ≡ where_name (λ x. not (is_among x targets.now)) env.old }
 {
     let [target] = targets else {
         return Err(Stop::Fault {
@@ -63,7 +65,9 @@ fn right_side(
     left: &mut u64,
 ) -> Result<Value, Stop>
     requires { IsTrue (is_levelled (view tree.now)) }
-    ensures meets { Meets (λ v. v) result left.new (spend (right_of (scene_of scene.now) env.now line targets.now (view tree.now)) left.old []) }
+    ensures meets { Meets (λ v. v) result left.new
+        (spend (right_of (scene_of scene.now) env.now line targets.now
+        (view tree.now)) left.old []) }
     ensures used { left.new ≤ left.old }
 {
     match tree {

@@ -49,8 +49,11 @@ pub fn run_block<L: Ledger>(
     steps: &mut Steps<L>,
 ) -> Result<Ran, Memory>
     requires { IsTrue (are_levelled (view_block block.now)) }
-    ensures run { IfOk result (λ r. Shows r env.new left (runs (scene_of scene.now) env.old (view_block block.now) left)) }
-    ensures kept { IfOk result (λ r. where_name (λ x. not (is_among x (bound (view_block block.now)))) env.new
+    ensures run { IfOk result
+        (λ r. Shows r env.new left
+        (runs (scene_of scene.now) env.old (view_block block.now) left)) }
+    ensures kept { IfOk result
+        (λ r. where_name (λ x. not (is_among x (bound (view_block block.now)))) env.new
         ≡ where_name (λ x. not (is_among x (bound (view_block block.now)))) env.old) }
     ensures steps { IfOk result (λ r. steps.new ≡ steps.old + r.cost) }
 {

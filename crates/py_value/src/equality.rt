@@ -27,7 +27,8 @@ pub(crate) fn eq_value(a: &Value, b: &Value) -> bool
 #[cycle(eq)]
 #[tactic(auto, using(crate::proofs::Levels::levels, crate::proofs::Equals::equals))]
 fn eq_pairs(a: &[(Value, Value)], b: &[(Value, Value)]) -> bool
-    ensures { result ≡ ((length a.now == length b.now) && pairs_in (pairs_of a.now) (pairs_of b.now)) }
+    ensures { result
+        ≡ ((length a.now == length b.now) && pairs_in (pairs_of a.now) (pairs_of b.now)) }
 {
     a.len() == b.len() && pairs_in(a, b)
 }

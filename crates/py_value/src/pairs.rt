@@ -20,8 +20,10 @@ impl Pairs {
     #[tactic(auto, using(crate::proofs::Places::looks))]
     pub fn look_up(&self, _alloc: Global, key: &Value) -> Result<Option<&Value>, OpFault>
         ensures ok { OnOk result (IsKey (data_of key.now)) }
-        ensures item { IfOk result (λ r. option_map data_of (option_copied r) ≡ item_of (data_of key.now) self.now) }
-        ensures fault { IfErr result (λ e. (e ≡ OpFault.Memory) ⊎ (key_fault (data_of key.now) ≡ Some e)) }
+        ensures item { IfOk result
+            (λ r. option_map data_of (option_copied r) ≡ item_of (data_of key.now) self.now) }
+        ensures fault { IfErr result
+            (λ e. (e ≡ OpFault.Memory) ⊎ (key_fault (data_of key.now) ≡ Some e)) }
     {
         if let Some(fault) = key_fault(key) {
             return Err(fault);
@@ -38,7 +40,8 @@ impl Pairs {
     pub fn put(&mut self, _alloc: Global, key: Value, item: Value) -> Result<(), OpFault>
         ensures ok { OnOk result (self.new ≡ with_pair (data_of key) (data_of item) self.old) }
         ensures key { OnOk result (IsKey (data_of key)) }
-        ensures fault { IfErr result (λ e. (e ≡ OpFault.Memory) ⊎ (key_fault (data_of key) ≡ Some e)) }
+        ensures fault { IfErr result
+            (λ e. (e ≡ OpFault.Memory) ⊎ (key_fault (data_of key) ≡ Some e)) }
         ensures err { OnErr result (self.new ≡ self.old) }
     {
         if let Some(fault) = key_fault(&key) {
@@ -67,7 +70,9 @@ fn find_key(pairs: &[(Value, Value)], key: &Value) -> Option<usize>
 // Sets one pair.
 #[tactic(auto, using(crate::proofs::Places::puts))]
 fn put_pair(pairs: &mut Vec<(Value, Value)>, key: Value, item: Value) -> Result<(), Memory>
-    ensures ok { OnOk result (pairs_of pairs.new.items ≡ with_pair (data_of key) (data_of item) (pairs_of pairs.old.items)) }
+    ensures ok { OnOk result
+        (pairs_of pairs.new.items
+        ≡ with_pair (data_of key) (data_of item) (pairs_of pairs.old.items)) }
     ensures err { OnErr result (pairs.new.items ≡ pairs.old.items) }
 {
     match find_key(pairs.as_slice(), &key) {
@@ -82,7 +87,9 @@ fn put_pair(pairs: &mut Vec<(Value, Value)>, key: Value, item: Value) -> Result<
 
 fn set_item(pairs: &mut Vec<(Value, Value)>, at: usize, item: Value)
     requires { at < vec_len pairs.old }
-    ensures { (d : Value × Value) → pairs.new.items ≡ slice_set pairs.old.items at ((slice_index_or pairs.old.items at d).0, item) }
+    ensures { (d : Value × Value)
+        → pairs.new.items
+        ≡ slice_set pairs.old.items at ((slice_index_or pairs.old.items at d).0, item) }
 {
     let pair = &mut pairs[at];
     let old = mem::replace(&mut pair.1, item);

@@ -14,11 +14,16 @@ pub fn texts_by_type()
     ensures truth { (b : Bool) → repr_of (D.Bool b) ≡ truth_text b }
     ensures number { (z : ℤ) → repr_of (D.Int z) ≡ signed_decimal z }
     ensures text { (t : List ℕ) → repr_of (D.Text t) ≡ quoted t }
-    ensures list { (items : List Data) → repr_of (D.List items) ≡ codes "[" ++ (listed (map repr_of items) ++ codes "]") }
-    ensures tuple { (items : List Data) → repr_of (D.Tuple items) ≡ codes "(" ++ (listed (map repr_of items) ++ tuple_end (length items)) }
+    ensures list { (items : List Data)
+        → repr_of (D.List items) ≡ codes "[" ++ (listed (map repr_of items) ++ codes "]") }
+    ensures tuple { (items : List Data)
+        → repr_of (D.Tuple items)
+        ≡ codes "(" ++ (listed (map repr_of items) ++ tuple_end (length items)) }
     ensures dictionary { (pairs : List (Data × Data)) → repr_of (D.Dict pairs)
-        ≡ codes "{" ++ (listed (map (λ p. repr_of p.0 ++ (codes ": " ++ repr_of p.1)) pairs) ++ codes "}") }
-    ensures element { (e : ElementData) → repr_of (D.Element e.kind e.name e.params e.initial e.present) ≡ element_text e }
+        ≡ codes "{" ++
+        (listed (map (λ p. repr_of p.0 ++ (codes ": " ++ repr_of p.1)) pairs) ++ codes "}") }
+    ensures element { (e : ElementData)
+        → repr_of (D.Element e.kind e.name e.params e.initial e.present) ≡ element_text e }
     ensures html { (t : List ℕ) → repr_of (D.Html t) ≡ t }
     ensures str_of_text { (t : List ℕ) → str_of (D.Text t) ≡ t }
     ensures str_of_others { (d : Data) → ((t : List ℕ) → d ≢ D.Text t) → str_of d ≡ repr_of d }
@@ -28,7 +33,8 @@ pub fn texts_by_type()
 pub fn worked_texts()
     ensures apostrophe { repr_of apostrophe ≡ codes "\"it's\"" }
     ensures apostrophe_str { str_of apostrophe ≡ codes "it's" }
-    ensures mixed { repr_of mixed ≡ codes "'\\'\"\\\\\\x00\\t\\n\\r\\x1f\\x7f" ++ 195 ∷ 169 ∷ codes "'" }
+    ensures mixed { repr_of mixed
+        ≡ codes "'\\'\"\\\\\\x00\\t\\n\\r\\x1f\\x7f" ++ 195 ∷ 169 ∷ codes "'" }
     ensures one_item { repr_of one_item ≡ codes "(1,)" }
     ensures one_pair { repr_of one_pair ≡ codes "{'a': [True, None]}" }
     ensures slider { repr_of slider ≡ codes "<slider s start=0 stop=10 step=1 value=0 label=''>" }

@@ -211,7 +211,8 @@ impl Element {
         initial: Value,
         present: Value,
     ) -> Result<Element, Memory>
-        ensures { IfOk result (λ e. e ≡ element kind name params (data_of initial) (data_of present)) }
+        ensures { IfOk result
+            (λ e. e ≡ element kind name params (data_of initial) (data_of present)) }
     {
         let initial = Box::new(alloc, initial)?;
         let present = Box::new(alloc, present)?;

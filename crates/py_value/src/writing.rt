@@ -130,7 +130,8 @@ fn push_items(alloc: Global, items: &[Value], out: &mut Text) -> Result<(), Memo
 #[cycle(text)]
 #[tactic(auto, using(crate::proofs::Levels::levels, crate::proofs::TextLevels::texts))]
 fn push_pairs(alloc: Global, pairs: &[(Value, Value)], out: &mut Text) -> Result<(), Memory>
-    ensures { OnOk result (out.new ≡ out.old ++ pairs_text (map spelling_of_pair (pairs_of pairs.now))) }
+    ensures { OnOk result
+        (out.new ≡ out.old ++ pairs_text (map spelling_of_pair (pairs_of pairs.now))) }
 {
     for (i, pair) in pairs.iter().enumerate() {
         out.push_str(separator_at(i))?;
@@ -145,7 +146,8 @@ fn push_pairs(alloc: Global, pairs: &[(Value, Value)], out: &mut Text) -> Result
 #[cycle(text)]
 #[tactic(auto, using(crate::proofs::Levels::levels, crate::proofs::TextLevels::texts))]
 fn push_params(alloc: Global, params: &[(Value, Value)], out: &mut Text) -> Result<(), Memory>
-    ensures { OnOk result (out.new ≡ out.old ++ params_text (map spelling_of_pair (pairs_of params.now))) }
+    ensures { OnOk result
+        (out.new ≡ out.old ++ params_text (map spelling_of_pair (pairs_of params.now))) }
 {
     for param in params {
         out.push_str(" ")?;

@@ -20,8 +20,10 @@ pub enum AdmitFault {
 
 /// What the value of the element becomes when it is set to this one (marimo's documentation, "Inputs"). A slider asks for no memory.
 pub fn admit(_alloc: Global, element: &Element, value: &Value) -> Result<Value, AdmitFault>
-    ensures admitted { IfOk result (λ v. admitted element.now (data_of value.now) ≡ Some (data_of v)) }
-    ensures refused { IfErr result (λ f. f ≡ AdmitFault.NotAllowed → admitted element.now (data_of value.now) ≡ None) }
+    ensures admitted { IfOk result
+        (λ v. admitted element.now (data_of value.now) ≡ Some (data_of v)) }
+    ensures refused { IfErr result
+        (λ f. f ≡ AdmitFault.NotAllowed → admitted element.now (data_of value.now) ≡ None) }
     ensures memory { IsNumberOrTruth value.now → IfErr result (λ f. f ≡ AdmitFault.NotAllowed) }
 {
     match element.kind() {
@@ -33,8 +35,13 @@ pub fn admit(_alloc: Global, element: &Element, value: &Value) -> Result<Value, 
 // The number, where it is in the range of these parameters.
 #[tactic(auto, using(crate::proofs::Keys::seen))]
 fn admit_number(params: &Pairs, value: &Value) -> Result<Value, AdmitFault>
-    ensures admitted { IfOk result (λ v. admits_number (range_at params.now) (number_in (value_of (data_of value.now))) ≡ Some (data_of v)) }
-    ensures refused { IfErr result (λ f. (f ≡ AdmitFault.NotAllowed) × (admits_number (range_at params.now) (number_in (value_of (data_of value.now))) ≡ None)) }
+    ensures admitted { IfOk result
+        (λ v. admits_number (range_at params.now) (number_in (value_of (data_of value.now)))
+        ≡ Some (data_of v)) }
+    ensures refused { IfErr result
+        (λ f. (f ≡ AdmitFault.NotAllowed)
+        × (admits_number (range_at params.now) (number_in (value_of (data_of value.now)))
+        ≡ None)) }
 {
     let (Some(range), Some(n)) = (range_at(params), number_in(value)) else {
         return Err(AdmitFault::NotAllowed);

@@ -17,8 +17,10 @@ use std::alloc::Global;
 /// The parameters of a call. `WrongType` where its arguments don't fit them.
 #[tactic(auto, using(crate::proofs::Fills::givens))]
 pub fn given(alloc: Global, parameters: &[Parameter], args: &Args) -> Result<Pairs, OpFault>
-    ensures ok { IfOk result (λ params. given (parameters_of parameters.now) (arguments_of args.now) ≡ Some params) }
-    ensures fault { IfErr result (λ f. IsMemoryOrNone f (given (parameters_of parameters.now) (arguments_of args.now))) }
+    ensures ok { IfOk result
+        (λ params. given (parameters_of parameters.now) (arguments_of args.now) ≡ Some params) }
+    ensures fault { IfErr result
+        (λ f. IsMemoryOrNone f (given (parameters_of parameters.now) (arguments_of args.now))) }
 {
     let places = args.places.items();
     let words = args.words.items();
@@ -40,8 +42,12 @@ fn filled(
     words: &[Word],
 ) -> Result<Pairs, OpFault>
     requires { length places.now ≤ length parameters.now }
-    ensures ok { IfOk result (λ params. filled (parameters_of parameters.now) (all_of places.now) (words_of words.now) [] ≡ Some params) }
-    ensures fault { IfErr result (λ f. IsMemoryOrNone f (filled (parameters_of parameters.now) (all_of places.now) (words_of words.now) [])) }
+    ensures ok { IfOk result
+        (λ params. filled (parameters_of parameters.now) (all_of places.now) (words_of words.now) []
+        ≡ Some params) }
+    ensures fault { IfErr result
+        (λ f. IsMemoryOrNone f
+        (filled (parameters_of parameters.now) (all_of places.now) (words_of words.now) [])) }
 {
     let mut params = Pairs::new(alloc);
     for (at, parameter) in parameters.iter().enumerate() {
@@ -61,8 +67,13 @@ fn argument(
     words: &[Word],
     earlier: &Pairs,
 ) -> Result<Value, OpFault>
-    ensures ok { IfOk result (λ v. argument (parameter_of parameter.now) (all_of (drop at places.now)) (words_of words.now) earlier.now ≡ Some (data_of v)) }
-    ensures fault { IfErr result (λ f. IsMemoryOrNone f (argument (parameter_of parameter.now) (all_of (drop at places.now)) (words_of words.now) earlier.now)) }
+    ensures ok { IfOk result
+        (λ v. argument (parameter_of parameter.now) (all_of (drop at places.now))
+        (words_of words.now) earlier.now ≡ Some (data_of v)) }
+    ensures fault { IfErr result
+        (λ f. IsMemoryOrNone f
+        (argument (parameter_of parameter.now) (all_of (drop at places.now))
+        (words_of words.now) earlier.now)) }
 {
     if at < places.len() {
         return Ok(copy(alloc, &places[at])?);
@@ -88,8 +99,10 @@ fn word<'a>(words: &'a [Word], name: &str) -> Option<&'a Value>
 
 // What a parameter is where no argument is given for it.
 fn default_value(alloc: Global, preset: &Preset, earlier: &Pairs) -> Result<Value, OpFault>
-    ensures ok { IfOk result (λ v. default_of (preset_of preset.now) earlier.now ≡ Some (data_of v)) }
-    ensures fault { IfErr result (λ f. IsMemoryOrNone f (default_of (preset_of preset.now) earlier.now)) }
+    ensures ok { IfOk result
+        (λ v. default_of (preset_of preset.now) earlier.now ≡ Some (data_of v)) }
+    ensures fault { IfErr result
+        (λ f. IsMemoryOrNone f (default_of (preset_of preset.now) earlier.now)) }
 {
     match preset {
         Preset::Wanted => Err(OpFault::WrongType),

@@ -15,7 +15,8 @@ use std::alloc::Global;
 /// arguments and wrong types are `WrongType`, then wrong values `Value`. Kinds that aren't built yet are `Subset`.
 pub fn make(alloc: Global, kind: Kind, name: &Text, args: &Args) -> Result<Element, OpFault>
     ensures ok { IfOk result (λ e. made kind name.now (arguments_of args.now) ≡ Ok e) }
-    ensures fault { IfErr result (λ f. (f ≡ OpFault.Memory) ⊎ (made kind name.now (arguments_of args.now) ≡ Err f)) }
+    ensures fault { IfErr result
+        (λ f. (f ≡ OpFault.Memory) ⊎ (made kind name.now (arguments_of args.now) ≡ Err f)) }
 {
     match kind {
         Kind::Slider => slider(alloc, name, given(alloc, &SLIDER, args)?),
@@ -26,7 +27,8 @@ pub fn make(alloc: Global, kind: Kind, name: &Text, args: &Args) -> Result<Eleme
 // The slider of these parameters.
 fn slider(alloc: Global, name: &Text, params: Pairs) -> Result<Element, OpFault>
     ensures ok { IfOk result (λ e. slider_of name.now (Some params) ≡ Ok e) }
-    ensures fault { IfErr result (λ f. (f ≡ OpFault.Memory) ⊎ (slider_of name.now (Some params) ≡ Err f)) }
+    ensures fault { IfErr result
+        (λ f. (f ≡ OpFault.Memory) ⊎ (slider_of name.now (Some params) ≡ Err f)) }
 {
     let (Some(range), Some(initial)) = (range_at(&params), number_at(&params, "value")) else {
         return Err(OpFault::WrongType);

@@ -17,7 +17,8 @@ pub fn are_words_of(words: &[Word], parameters: &[Parameter]) -> bool
 
 // Each argument is for a parameter of these.
 fn are_parameters(words: &[Word], parameters: &[Parameter]) -> bool
-    ensures { result ≡ list_all (λ w. list_any (λ p. bytes_eq p.name.now w.name) parameters.now) words.now }
+    ensures { result
+        ≡ list_all (λ w. list_any (λ p. bytes_eq p.name.now w.name) parameters.now) words.now }
 {
     words
         .iter()
