@@ -57,7 +57,7 @@ returns-in-Err g c =
       steps = λ zero. absurd (stopped_not_done c.in-Err.stop c.end_stopped.result _ _ _ ended zero);
       cut = λ four asked nb ms h can read.
           absurd
-          {A = IsCutOff (label_of asked) (last_of asked) (parts_from nb usual_budget Before ms) (g.O.Sink.taken c.args.out.now) now c.args.steps.now c.carry_out.new.steps}
+          {A = IsCutOff (label_of asked) (last_of asked) (parts_from nb usual_budget Before ms) (g.O.Sink.taken c.args.out.now) now c.args.steps.now _}
           (stopped_not_cut _ _ _ c.in-Err.stop c.end_stopped.result c.in-Err.ensures.stopped (λ memory. (nothing memory).0) four nb ms can read);
       refused = wrote_refused _ _ _ _ _ _ _ wrote;
       no_script = wrote_no_script _ _ _ _ _ _ _ wrote;
