@@ -20,6 +20,5 @@ pub mod SoloVisits
 pub mod Standings
 pub mod Steps
 pub mod Taken
-pub mod ThinCode
 pub mod Without
 pub mod Written

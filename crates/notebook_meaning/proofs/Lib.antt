@@ -7,6 +7,7 @@ pub mod InBeing
 pub mod InOrder
 pub mod Kept
 pub mod LookUps
+pub mod Makes
 pub mod MessageTexts
 pub mod NamesOf
 pub mod OneByOne
@@ -21,4 +22,8 @@ pub mod ScriptTexts
 pub mod SettingValues
 pub mod SliderAnswers
 pub mod Standing
+pub mod ThinBindings
 pub mod ThinCells
+pub mod ThinCode
+pub mod ThinMakes
+pub mod ThinRuns

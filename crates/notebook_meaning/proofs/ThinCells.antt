@@ -11,11 +11,12 @@ use Rattle.py_tree.specs.Trees.{Tree, literal, name, sum, attribute, call, Trees
 use Rattle.py_value.specs.Maps.{Map}
 use Rattle.py_value.specs.declared.types.Value.{Value}
 use Rattle.notebook_meaning.specs.Meaning.{Env}
+use Rattle.notebook_meaning.specs.Runnable.{LikeOutcome, SameOutcome}
 use Rattle.notebook_meaning.specs.Thin.{Elements, reserved, is_plain_name, is_name, is_number_tree, is_slider_name, is_term, is_chain, is_sum, is_maker, are_bounds, makes_slider, is_target, is_line, stands_alone, is_empty, are_lines, line_count, is_plain, is_whole, is_cell, are_cells, elements_of, are_thin}
 use Rattle.notebook_meaning.specs.Whole.{without_defs, outcome_of}
 use Rattle.py_value.proofs.SortedMaps.{name_of}
 use Rattle.notebook_meaning.proofs.LookUps.{Agree, among_one, among_left, among_right, bound_defs, read_refs}
-use Rattle.notebook_meaning.proofs.Coincidence.{without_both, AgreeAfter, same_by_reads, AlikeAfter, same_but_present}
+use Rattle.notebook_meaning.proofs.Coincidence.{without_both, same_by_reads, same_but_present}
 
 pub among_cases : (x : Name) (xs ys : List Name) → is_among x (xs ++ ys) ≡ true → (is_among x xs ≡ true) ⊎ (is_among x ys ≡ true)
 among_cases x xs ys h = or_cases _ _ (sym (list_any-append _ xs ys) ∙ h)
@@ -33,7 +34,7 @@ name_plain (c ∷ cs) h = false_from_ne_true _ (λ underscore.
     let same : c ≡ 95 = eqb-true c 95 underscore in
     absurd (omega arith))
 
-unreserved : (x : Name) → is_name x ≡ true → is_among x reserved ≡ false
+pub unreserved : (x : Name) → is_name x ≡ true → is_among x reserved ≡ false
 unreserved x h = not-true _ (and_parts (is_plain_name x) _ h).1
 
 name_no_builtin : (x : Name) → is_name x ≡ true → is_among x builtins ≡ false
@@ -276,17 +277,18 @@ thin_agree es n c env env' h agree x here =
     let unbound : is_among x (bound c.body) ≡ false = false_from_ne_true _ (λ b. both_ways _ undefined (bound_defs c x b plain.0)) in
     agree x (read_refs c x here (not_from_false _ (or_from _ _ (or_from _ _ unbound plain.0) plain.1))))
 
--- So a cell of the thin form does the same where the bindings agree at the names that it references, and the present values at the
--- elements that it creates.
-pub thin_same : (es : Elements) (n : ℕ) (budget : ℕ) (ui ui' : Map Value) (may_run : Bool) (c : ℕ) (env env' : Env) (code : Cell)
-    → is_cell es n code ≡ true → Agree (refs code) env env' → Agree (elements code) ui ui'
-    → AgreeAfter code env env' (outcome_of budget ui may_run c env code) (outcome_of budget ui' may_run c env' code)
-thin_same es n budget ui ui' may_run c env env' code h agree same =
-    same_by_reads budget ui ui' may_run c env env' code (thin_agree es n code env env' h agree) same
+-- So a cell of the thin form does the same where the bindings agree at the names that it references.
+pub thin_same : (es : Elements) (n : ℕ) (budget : ℕ) (ui : Map Value) (may_run : Bool) (c : ℕ) (env env' : Env) (code : Cell)
+    → is_cell es n code ≡ true → Agree (refs code) env env'
+    → SameOutcome (defs code) (outcome_of budget ui may_run c env code) (outcome_of budget ui may_run c env' code)
+thin_same es n budget ui may_run c env env' code h agree =
+    let same = same_by_reads budget ui ui may_run c env env' code (thin_agree es n code env env' h agree) (λ x here. refl) in
+    record { frame = same.frame; cost = same.cost; defined = same.defined }
 
 -- With other present values it does the same, but for the present values of the elements that it creates.
-pub thin_but_present : (es : Elements) (n : ℕ) (budget : ℕ) (ui ui' : Map Value) (may_run : Bool) (c : ℕ) (env env' : Env) (code : Cell)
-    → is_cell es n code ≡ true → Agree (refs code) env env'
-    → AlikeAfter ui ui' code env env' (outcome_of budget ui may_run c env code) (outcome_of budget ui' may_run c env' code)
-thin_but_present es n budget ui ui' may_run c env env' code h agree =
-    same_but_present budget ui ui' may_run c env env' code (thin_agree es n code env env' h agree) (thin_apart es n code h)
+pub thin_but_present : (es : Elements) (n : ℕ) (budget : ℕ) (ui ui' : Map Value) (may_run : Bool) (c : ℕ) (env : Env) (code : Cell)
+    → is_cell es n code ≡ true
+    → LikeOutcome ui ui' (defs code) (outcome_of budget ui may_run c env code) (outcome_of budget ui' may_run c env code)
+thin_but_present es n budget ui ui' may_run c env code h =
+    let alike = same_but_present budget ui ui' may_run c env env code (λ x here. refl) (thin_apart es n code h) in
+    record { frame = alike.frame; cost = alike.cost; defined = λ x here. (alike.defined x here).bound }

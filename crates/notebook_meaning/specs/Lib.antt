@@ -6,6 +6,7 @@ pub mod Meaning
 pub mod Messages
 pub mod Program
 pub mod Reruns
+pub mod Runnable
 pub mod Runs
 pub mod Samples
 pub mod Scripts

@@ -15,6 +15,7 @@ ghost use Rattle.notebook_meaning.specs.Graph.{elements_of, order, is_in, LiesOn
 ghost use Rattle.notebook_meaning.specs.Meaning.{Scene, Env, value_of, block_of};
 ghost use Rattle.notebook_meaning.specs.Messages.{IsMessage};
 ghost use Rattle.notebook_meaning.specs.Reruns.{rerun, IsReached};
+ghost use Rattle.notebook_meaning.specs.Runnable.{Runnable};
 ghost use Rattle.notebook_meaning.specs.Runs.{HasOneRun};
 ghost use Rattle.notebook_meaning.specs.Whole.{ended_ok, whole};
 ghost use Rattle.notebook_meaning.specs.Fails.{FailsAt};
@@ -116,16 +117,16 @@ pub fn worked_answers()
         (Set ((codes "s", V.Int (pos 11)) ∷ []))).parts ≡ 0 }
 {}
 
-/// What is in being in an accepted notebook where a visitor's messages have led: an element of each name that a cell creates which has
+/// What is in being in a notebook that runs where a visitor's messages have led: an element of each name that a cell creates which has
 /// ended ok, and no other; and each present value is that of an element in being, which admits it as it is.
 pub fn elements_in_being()
-    ensures being { (nb : List Cell) → are_thin nb ≡ true → NoneDoubled nb → NoneCyclic nb
+    ensures being { (nb : List Cell) → Runnable nb → NoneDoubled nb → NoneCyclic nb
         → (budget : ℕ) (ms : List Message) (ui : Map Value)
         → state_after nb budget Before ms ≡ On ui → (x : Name)
         → (((e : ElementData) × (element_in (whole nb budget ui).env x ≡ Some e))
         ↔ ((c : ℕ) × (is_among x (elements_of nb c) ≡ true)
         × (ended_ok (whole nb budget ui).frames c ≡ true))) }
-    ensures present { (nb : List Cell) → are_thin nb ≡ true → NoneDoubled nb → NoneCyclic nb
+    ensures present { (nb : List Cell) → Runnable nb → NoneDoubled nb → NoneCyclic nb
         → (budget : ℕ) (ms : List Message) (ui : Map Value)
         → state_after nb budget Before ms ≡ On ui → (x : Name) (v : Value) → look_up x ui ≡ Some v
         → (e : ElementData) × (d : Data) × (element_in (whole nb budget ui).env x ≡ Some e)
