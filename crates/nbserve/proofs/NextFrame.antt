@@ -50,7 +50,7 @@ on_by true s c cs e by = (refl, by)
 on_by false s c cs e by = let no : [] ≡ c ∷ cs = sym by.left ∙ e in absurd cc
 
 runs_of : (s : KernelState) → IsKept s → Runs (view_cells s.notebook.now)
-runs_of s kept = record { thin = kept.thin; once = kept.once; free = kept.free }
+runs_of s kept = record { runnable = kept.runnable; once = kept.once; free = kept.free }
 
 -- the cell is one of the notebook
 pub cell_there : (s : KernelState) (cells : Cells) (taken c : ℕ) → IsKept (standing s cells taken) → slice_get (cells_of cells) taken ≡ Some c → c < length s.notebook.now
@@ -99,7 +99,7 @@ module _ (s : KernelState) (cells : Cells) (taken c : ℕ) (code : Cell) (env : 
   -- it is kept that the cell is done
   pub did_kept : Did s cells taken c code env f → IsKept (after s cells taken c env f)
   did_kept did = record {
-    thin = did.kept.thin;
+    runnable = did.kept.runnable;
     once = did.kept.once;
     free = did.kept.free;
     count = length-set s.newest.items c (Some f) ∙ did.kept.count;

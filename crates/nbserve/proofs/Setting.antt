@@ -126,13 +126,13 @@ module _ (s : KernelState) (kept : IsKept s) (free : s.coming ≡ coming.Nothing
     so_kept again is =
         let env : Env = laid_over sets s.env in
         record {
-          thin = kept.thin;
+          runnable = kept.runnable;
           once = kept.once;
           free = kept.free;
           count = kept.count;
           plain = plain_of env going.but.plain going.but.sorted;
           cells = again_there s.notebook.now (x ∷ []) (cells_of again) is;
-          within = few s.notebook.now (cells_of again) kept.thin
+          within = few s.notebook.now (cells_of again) kept.runnable
               (omega (arith, ap length is, kept_few (is_within nb (x ∷ []) (length nb)) (order nb)));
           stands = subst (λ b. StandsBy b (set_so later env again)) (sym on) (record {
             values = next_plain nb s.env s.present sets after.values;

@@ -7,7 +7,7 @@ use Rattle.py_tree.specs.View.{view_cell, view_cells}
 use Rattle.py_tree.specs.declared.tree.CellCode.{CellCode}
 use Rattle.notebook_meaning.specs.Answer.{On, Open, Part, at_no_cost, results, results_of, counted, answer}
 use Rattle.notebook_meaning.specs.Graph.{order}
-use Rattle.notebook_meaning.specs.Thin.{are_thin}
+use Rattle.notebook_meaning.specs.Runnable.{Runnable}
 use Rattle.notebook_meaning.specs.Underway.{Going, HasNoElements}
 use Rattle.notebook_meaning.specs.declared.frames.Frame.TheVariants as frame
 use Rattle.notebook_meaning.proofs.AtKept.{none_kept}
@@ -20,17 +20,16 @@ use Rattle.nbserve.specs.declared.coming.Cells.{Cells}
 use Rattle.nbserve.specs.declared.coming.Coming.TheVariants as coming
 use Rattle.nbserve.specs.declared.kernel_state.KernelState.{KernelState}
 use Rattle.nbserve.proofs.Bounds.{order_below, order_length}
-use Rattle.nbserve.proofs.ThinCode.{thin_few}
 
 pub runs_of : (s : KernelState) → IsKept s → Runs (view_cells s.notebook.now)
-runs_of s kept = record { thin = kept.thin; once = kept.once; free = kept.free }
+runs_of s kept = record { runnable = kept.runnable; once = kept.once; free = kept.free }
 
 -- ---- cells of the order
 
 -- their frames can be counted
-pub few : (nb : List CellCode) (cells : List ℕ) → are_thin (view_cells nb) ≡ true → length cells ≤ length (order (view_cells nb))
+pub few : (nb : List CellCode) (cells : List ℕ) → Runnable (view_cells nb) → length cells ≤ length (order (view_cells nb))
     → (0 ≤ length cells) × (length cells + 1 < 2 ^ 32)
-few nb cells thin h = (omega arith, omega (arith, thin_few (view_cells nb) thin, order_length (view_cells nb)))
+few nb cells runnable h = (omega arith, omega (arith, runnable.few, order_length (view_cells nb)))
 
 pub order_there : (nb : List CellCode) → All (λ c. c < length nb) (order (view_cells nb))
 order_there nb = subst (λ n. All (λ c. c < n) (order (view_cells nb))) (length-map nb view_cell) (order_below (view_cells nb))
@@ -53,13 +52,13 @@ opened_kept s cells kept off is =
     let nb : List Cell = view_cells s.notebook.now in
     let before : IsBefore s = before_by s kept off in
     record {
-      thin = kept.thin;
+      runnable = kept.runnable;
       once = kept.once;
       free = kept.free;
       count = kept.count;
       plain = kept.plain;
       cells = subst (All (λ c. c < length s.notebook.now)) (sym is) (order_there s.notebook.now);
-      within = few s.notebook.now (cells_of cells) kept.thin (omega (arith, ap length is));
+      within = few s.notebook.now (cells_of cells) kept.runnable (omega (arith, ap length is));
       stands = record {
         values = subst HasNoElements (sym before.present) none_kept;
         going = subst (λ left. Going nb s.budget s.present left s.env (newest_in s.newest.items)) (sym is)

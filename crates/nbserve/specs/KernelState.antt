@@ -1,10 +1,10 @@
 -- What a kernel keeps of its visitor, and what is known of it.
-use Rattle.std.specs.Prelude.{◌≡◌, ℕ, ◌<◌, Bool, true, false, not, if◌then◌else◌, IsTrue, All, List, [], length, replicate, None}
+use Rattle.std.specs.Prelude.{◌≡◌, ℕ, ◌<◌, Bool, true, false, not, if◌then◌else◌, All, List, [], length, replicate, None}
 use Rattle.notebook_meaning.specs.Answer.{State, Before, On}
 use Rattle.notebook_meaning.specs.Graph.{NoneCyclic, NoneDoubled}
 use Rattle.notebook_meaning.specs.Meaning.{Env, Flow}
 use Rattle.notebook_meaning.specs.Spending.{Spending, runs}
-use Rattle.notebook_meaning.specs.Thin.{are_thin}
+use Rattle.notebook_meaning.specs.Runnable.{Runnable}
 use Rattle.notebook_meaning.specs.Underway.{Going, HasNoElements, outcome_now}
 use Rattle.notebook_meaning.specs.Whole as whole
 use Rattle.py_tree.specs.Elements.{elements}
@@ -59,7 +59,7 @@ StandsBy false s = IsBefore s
 
 -- what is known of what a kernel keeps
 pub record IsKept (s : KernelState) : Type 0 where
-  pub thin : IsTrue (are_thin (view_cells s.notebook.now))
+  pub runnable : Runnable (view_cells s.notebook.now)
   pub once : NoneDoubled (view_cells s.notebook.now)
   pub free : NoneCyclic (view_cells s.notebook.now)
   pub count : length s.newest.items ≡ length s.notebook.now

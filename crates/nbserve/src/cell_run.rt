@@ -4,8 +4,8 @@ ghost use Rattle.std.specs.List.{list_all};
 ghost use Rattle.nbserve.specs.KernelState.{IsPlain, outcome_at, run_of};
 ghost use Rattle.nbserve.specs.Ran.{settled};
 ghost use Rattle.nbserve.specs.Visit.{newest_in};
+ghost use Rattle.notebook_meaning.specs.Runnable.{Runnable};
 ghost use Rattle.notebook_meaning.specs.Spending.{cost_of};
-ghost use Rattle.notebook_meaning.specs.Thin.{are_thin};
 ghost use Rattle.notebook_meaning.specs.Underway.{ended};
 ghost use Rattle.notebook_meaning.specs.Whole as whole;
 ghost use Rattle.py_tree.specs.Elements.{elements};
@@ -108,7 +108,7 @@ impl<'n> KernelState<'n> {
         steps: &mut Steps<L>,
     ) -> Result<CellFrame, Memory>
         requires there { cell < length self.old.notebook.now }
-        requires thin { IsTrue (are_thin (view_cells self.old.notebook.now)) }
+        requires runnable { Runnable (view_cells self.old.notebook.now) }
         requires count { length self.old.newest.items ≡ length self.old.notebook.now }
         requires plain { IsPlain self.old.env }
         ensures frame { IfOk result

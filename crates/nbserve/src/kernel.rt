@@ -1,8 +1,8 @@
 // The kernel of one visitor.
-ghost use Rattle.std.specs.Prelude.{◌≡◌, [], true, false, IfOk, OnOk, OnErr, IsErr, IsOk, IsTrue, length, option_copied};
+ghost use Rattle.std.specs.Prelude.{◌≡◌, [], true, false, IfOk, OnOk, OnErr, IsErr, IsOk, length, option_copied};
 ghost use Rattle.nbserve.specs.KernelState.{IsKept, visit_of};
 ghost use Rattle.nbserve.specs.Visit.{begun, newest_in, present_in, IsDelivery, IsStep, Stands};
-ghost use Rattle.notebook_meaning.specs.Thin.{are_thin};
+ghost use Rattle.notebook_meaning.specs.Runnable.{Runnable};
 ghost use Rattle.py_tree.specs.View.{view_cells};
 
 use crate::answers::{Delivered, Stepped};
@@ -46,7 +46,7 @@ impl<'n> Model for Kernel<'n> {
 
 /// A session of a notebook that isn't open yet. Each run of a cell has this budget of steps.
 pub fn open<'n>(alloc: Global, notebook: &'n Notebook, budget: u64) -> Result<Kernel<'n>, Memory>
-    requires { IsTrue (are_thin (view_cells notebook.now)) }
+    requires { Runnable (view_cells notebook.now) }
     ensures { IfOk result (λ kernel. kernel ≡ begun notebook.now budget) }
 {
     Ok(Kernel {

@@ -1,7 +1,7 @@
 // What a kernel keeps of its visitor.
-ghost use Rattle.std.specs.Prelude.{IfOk, IsTrue};
+ghost use Rattle.std.specs.Prelude.{IfOk};
 ghost use Rattle.nbserve.specs.KernelState.{IsKept, IsNew};
-ghost use Rattle.notebook_meaning.specs.Thin.{are_thin};
+ghost use Rattle.notebook_meaning.specs.Runnable.{Runnable};
 ghost use Rattle.py_tree.specs.View.{view_cells};
 
 use crate::coming::Coming;
@@ -31,7 +31,7 @@ pub fn new_state<'n>(
     notebook: &'n Notebook,
     budget: u64,
 ) -> Result<KernelState<'n>, Memory>
-    requires { IsTrue (are_thin (view_cells notebook.now)) }
+    requires { Runnable (view_cells notebook.now) }
     ensures kept { IfOk result (λ state. IsKept state) }
     ensures new { IfOk result (λ state. IsNew notebook.now budget state) }
 {

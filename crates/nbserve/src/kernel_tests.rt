@@ -1,6 +1,6 @@
 // Calls of a kernel over a notebook with a slider. The texts that are wanted are written by hand.
-ghost use Rattle.std.specs.Prelude.{◌≡◌, ◌<◌, IfOk, IsTrue};
-ghost use Rattle.notebook_meaning.specs.Thin.{are_thin};
+ghost use Rattle.std.specs.Prelude.{◌≡◌, ◌<◌, IfOk};
+ghost use Rattle.notebook_meaning.specs.Runnable.{Runnable};
 ghost use Rattle.py_tree.specs.View.{view_cells};
 
 use crate::answers::{Delivered, Stepped};
@@ -50,7 +50,7 @@ enum Call<'a> {
 use Call::{Deliver, Newest, Pending, Present, Step};
 
 fn slider(alloc: Global) -> Result<Notebook, Stop>
-    ensures { IfOk result (λ nb. IsTrue (are_thin (view_cells nb))) }
+    ensures { IfOk result (λ nb. Runnable (view_cells nb)) }
 {
     Ok(notebook(alloc, thin(alloc, SLIDER)?)?)
 }
@@ -133,7 +133,7 @@ fn calls_lines<L: Ledger>(
     calls: &[Call<'_>],
     blank: Blank,
 ) -> Result<Vec<u8>, Memory>
-    requires thin { IsTrue (are_thin (view_cells notebook.now)) }
+    requires runnable { Runnable (view_cells notebook.now) }
     requires new { (blank.name ≡ L.name) × (blank.parts ≡ L.parts) × (0 < blank.parts) }
 {
     let mut kernel = open(alloc, notebook, BUDGET)?;
@@ -147,7 +147,7 @@ fn calls_lines<L: Ledger>(
 
 // What each of these calls gives, one a line.
 fn lines_of(alloc: Global, notebook: &Notebook, calls: &[Call<'_>]) -> Result<Vec<u8>, Memory>
-    requires { IsTrue (are_thin (view_cells notebook.now)) }
+    requires { Runnable (view_cells notebook.now) }
 {
     calls_lines::<Brand>(alloc, notebook, calls, Blank::new(1))
 }

@@ -1,11 +1,11 @@
 // Visits that are played.
-ghost use Rattle.std.specs.Prelude.{◌≡◌, ◌+◌, ◌≤◌, ◌++◌, ◌∷◌, [], List, IfErr, IsTrue, OnErr, OnOk, map};
+ghost use Rattle.std.specs.Prelude.{◌≡◌, ◌+◌, ◌≤◌, ◌++◌, ◌∷◌, [], List, IfErr, OnErr, OnOk, map};
 ghost use Rattle.link_io.specs.Outside.{Rose, Took, TookPart};
 ghost use Rattle.nbserve.specs.Cut.{IsCut};
 ghost use Rattle.notebook_meaning.specs.Answer.{Before, Message, cost_of_parts, frames_in, parts_from, solo, work};
 ghost use Rattle.notebook_meaning.specs.FrameText.{frame_text, labelled};
 ghost use Rattle.notebook_meaning.specs.Messages.{AreMessages};
-ghost use Rattle.notebook_meaning.specs.Thin.{are_thin};
+ghost use Rattle.notebook_meaning.specs.Runnable.{Runnable};
 ghost use Rattle.py_tree.specs.View.{view_cells};
 
 use crate::answers::Stepped;
@@ -116,7 +116,7 @@ pub fn play<O: Sink, L: Ledger>(
     out: &mut O,
     steps: &mut Steps<L>,
 ) -> Result<(), PlayFault>
-    requires { IsTrue (are_thin (view_cells notebook.now)) }
+    requires { Runnable (view_cells notebook.now) }
 
     // These are the frames of a visitor alone who sends these messages.
     ensures written { OnOk result

@@ -1,5 +1,5 @@
 // The top call.
-ghost use Rattle.std.specs.Prelude.{◌≡◌, ◌⊎◌, ℕ, ◌+◌, ◌≤◌, IfErr, IfOk, IsTrue, List, map, OnErr, string_bytes, Some, None};
+ghost use Rattle.std.specs.Prelude.{◌≡◌, ◌⊎◌, ℕ, ◌+◌, ◌≤◌, IfErr, IfOk, List, map, OnErr, string_bytes, Some, None};
 ghost use Rattle.link_io.specs.Outside.{Rose};
 ghost use Rattle.nbserve.specs.Carried.{Carried, IsDone, IsPlayed};
 ghost use Rattle.nbserve.specs.Cut.{IsCutOff};
@@ -10,8 +10,8 @@ ghost use Rattle.notebook_meaning.specs.Answer.{Before, Message, parts_from, wor
 ghost use Rattle.notebook_meaning.specs.Messages.{AreMessages};
 ghost use Rattle.notebook_meaning.specs.Program as program;
 ghost use Rattle.notebook_meaning.specs.Program.{command_of, notebook_of, AreRead, IsAccepted, IsLoaded, IsRefused, read_of, usual_budget};
+ghost use Rattle.notebook_meaning.specs.Runnable.{Runnable};
 ghost use Rattle.notebook_meaning.specs.Scripts.{IsNoScript};
-ghost use Rattle.notebook_meaning.specs.Thin.{are_thin};
 ghost use Rattle.py_tree.specs.Trees.{Cell};
 ghost use Rattle.py_tree.specs.View.{view_cells};
 
@@ -75,7 +75,7 @@ fn perform<O: Sink, L: Ledger>(
     out: &mut O,
     steps: &mut Steps<L>,
 ) -> u8
-    requires { IsTrue (are_thin (view_cells notebook.now)) }
+    requires { Runnable (view_cells notebook.now) }
     ensures { (ms : List Message) → AreMessages (map (λ m. m.now) messages.now) ms
         → IsDone (view_cells notebook.now) ms label.now last.now result
         (O.taken out.old) (O.taken out.new)
@@ -97,7 +97,7 @@ fn perform_script<F: Files, O: Sink, L: Ledger>(
     out: &mut O,
     steps: &mut Steps<L>,
 ) -> Result<u8, Stop>
-    requires { IsTrue (are_thin (view_cells notebook.now)) }
+    requires { Runnable (view_cells notebook.now) }
     ensures played { IfOk result
         (λ status. IsPlayed (F.holds files.old) file.now (view_cells notebook.now) status
         (O.taken out.old) (O.taken out.new)

@@ -16,8 +16,6 @@ use Rattle.py_value.specs.declared.kinds.Kind.TheVariants as kind
 use Rattle.py_value.specs.declared.types.Data.{Data}
 use Rattle.py_value.specs.declared.types.Data.TheVariants as D
 use Rattle.py_value.specs.declared.types.Value.{Value}
-use Rattle.py_value.specs.declared.types.Value.TheVariants as V
-use Rattle.py_value.proofs.Levels.{value_of-data_of}
 use Rattle.py_value.proofs.SortedMaps.{look_up-put, look_up-put_other, look_up-where_name, name_of}
 use Rattle.notebook_meaning.specs.Answer.{element_in, names_of, next, value_set, with_sets, with_value}
 use Rattle.notebook_meaning.specs.Graph.{elements_of}
@@ -27,6 +25,7 @@ use Rattle.notebook_meaning.specs.Underway.{HasNoElements, is_element}
 use Rattle.notebook_meaning.specs.Whole.{whole}
 use Rattle.notebook_meaning.proofs.Going.{Runs}
 use Rattle.notebook_meaning.proofs.InBeing.{created_bound, creator}
+use Rattle.notebook_meaning.proofs.Makes.{int_plain}
 
 -- ---- the whole
 
@@ -39,10 +38,6 @@ whole_at_kept nb budget ui runs kept x e h =
     subst (λ f. at_kept (look_up x ui) f ≡ f) (same_Some m.0 e (sym m.1 ∙ h)) m.2
 
 -- ---- the next present values
-
--- a number is no element
-pub int_plain : (n : ℤ) → is_element (value_in (D.Int n)) ≡ false
-int_plain n = ap is_element (value_of-data_of (V.Int n))
 
 -- what an element admits is no element
 admitted_plain : (e : ElementData) (d now : Data) → admitted e d ≡ Some now → is_element (value_in now) ≡ false

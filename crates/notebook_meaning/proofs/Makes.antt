@@ -11,16 +11,20 @@ use Rattle.py_value.specs.View.{value_of as value_in}
 use Rattle.py_value.specs.declared.kinds.Kind.{Kind}
 use Rattle.py_value.specs.declared.kinds.Kind.TheVariants as kind
 use Rattle.py_value.specs.declared.op_fault.OpFault.{OpFault}
+use Rattle.py_value.specs.declared.types.Data.TheVariants as D
 use Rattle.py_value.specs.declared.types.Value.{Value}
 use Rattle.py_value.specs.declared.types.Value.TheVariants as V
 use Rattle.py_value.proofs.Levels.{value_of-data_of}
 use Rattle.notebook_meaning.specs.Meaning.{Env, Scene, call_of, element_at, element_by, read_module, values_after}
 use Rattle.notebook_meaning.specs.Underway.{is_element}
-use Rattle.notebook_meaning.proofs.AtKept.{int_plain}
 use Rattle.notebook_meaning.proofs.Kept.{AllGiven, given_after}
 use Rattle.notebook_meaning.proofs.LookUps.{name_itself}
 
 -- ---- what is made is at no element
+
+-- a number is no element
+pub int_plain : (n : ℤ) → is_element (value_in (D.Int n)) ≡ false
+int_plain n = ap is_element (value_of-data_of (V.Int n))
 
 -- an element that is made is at no element as its value
 abbrev pub MadePlain : Result ElementData OpFault → Type 0

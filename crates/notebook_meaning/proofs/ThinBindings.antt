@@ -128,7 +128,7 @@ module _ (es : Elements) (ui : Map Value) (kept : HasNoElements ui) (own : List 
       (λ v. given_after is_no_element (value_of scene env line b) _ (λ w. sum_plain line (number_of v) (number_of w) (joining_fault v w)))
   chain_plain env line (attribute base x) tidy h =
       attribute_plain line (bytes_eq x (codes "value")) _ _ (base_plain env line base tidy (and_parts (is_slider_name es base) _ h).0) tt
-  chain_plain env line (call callee args) tidy h = absurd (both_ways false refl h)
+  chain_plain env line t tidy h = absurd (both_ways false refl h)
 
   -- ---- lines
 
@@ -228,8 +228,6 @@ sum_makes_none es t h makes = nothing makes
 
 slider_created : (es : Elements) (x : Name) (h : Head) → is_line es h ≡ true → is_among x (head_sliders h) ≡ true
     → is_among x (head_elements h) ≡ true
-slider_created es x (value t) line here = nothing here
-slider_created es x import_mo line here = nothing here
 slider_created es x (assign targets t) line here = by (makes_slider t) refl here
   where
     by : (b : Bool) → makes_slider t ≡ b → is_among x (cond b targets []) ≡ true → is_among x (head_elements (assign targets t)) ≡ true
@@ -240,6 +238,7 @@ slider_created es x (assign targets t) line here = by (makes_slider t) refl here
         let both = (and_parts (is_target es true targets && makes_slider t) es.imported makes).0 in
         made_created es x targets t (and_parts (is_target es true targets) (makes_slider t) both).0 is h)
         (or_cases (is_target es false targets && is_sum es t) (is_target es true targets && makes_slider t && es.imported) line)
+slider_created es x h line here = nothing here
 
 sliders_created : (es : Elements) (n : ℕ) (x : Name) (b : Stmts) → are_lines es n b ≡ true → is_among x (sliders b) ≡ true
     → is_among x (created b) ≡ true

@@ -55,8 +55,7 @@ term_read : (es : Elements) (x : Name) (t : Tree) → is_term es t ≡ true → 
 term_read es x (literal token) h here = nothing here
 term_read es x (name y) h here = subst (λ z. is_name z ≡ true) (among_one x y here) (and_parts _ _ h).0
 term_read es x (attribute base y) h here = slider_name_read es x base (and_parts _ _ h).0 here
-term_read es x (sum a b) h here = nothing h
-term_read es x (call callee args) h here = nothing h
+term_read es x t h here = nothing h
 
 chain_read : (es : Elements) (x : Name) (t : Tree) → is_chain es t ≡ true → is_among x (reads t) ≡ true → is_name x ≡ true
 chain_read es x (sum a b) h here = ⊎_elim
@@ -66,7 +65,7 @@ chain_read es x (sum a b) h here = ⊎_elim
 chain_read es x (literal token) h here = nothing here
 chain_read es x (name y) h here = term_read es x (name y) h here
 chain_read es x (attribute base y) h here = term_read es x (attribute base y) h here
-chain_read es x (call callee args) h here = nothing h
+chain_read es x t h here = nothing h
 
 number_read : (x : Name) (t : Tree) → is_number_tree t ≡ true → is_among x (reads t) ≡ true → ⊥
 number_read x (literal token) h here = nothing here

@@ -12,7 +12,7 @@ pub returns-clause-kept : goal.returns-clause-kept
 returns-clause-kept c =
     let all : c.loop.index ≡ length c.args.notebook.now = omega (arith, ap length c.cells-items.ensures.cells) in
     record {
-      thin = c.requires;
+      runnable = c.requires;
       once = c.cells-items.ensures.once;
       free = c.cells-items.ensures.free;
       count = ap length c.loop.invariant ∙ length-replicate c.loop.index None ∙ all;

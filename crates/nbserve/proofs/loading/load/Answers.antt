@@ -3,7 +3,7 @@ use Rattle.std.proofs.Common.{subst, sym, arith}
 use Rattle.std.proofs.lemmas.List.{length-map}
 use Rattle.notebook_meaning.specs.Program.{IsAccepted}
 use Rattle.py_tree.specs.View.{view_cell, view_cells}
-use Rattle.nbserve.proofs.ThinCode.{thin_few}
+use Rattle.notebook_meaning.proofs.ThinCode.{thin_few}
 use Rattle.nbserve.specs.Stops.{IsWhy, of_form}
 use Rattle.nbserve.proofs.Outcomes.{if_err_of}
 use Rattle.nbserve.proofs.Refusing.{refused_by_form}

@@ -10,7 +10,6 @@ use Rattle.nbserve.specs.KernelState.{IsPlain, outcome_at, run_of}
 use Rattle.nbserve.proofs.Cells.{plain_after, plain_without, removed_again}
 use Rattle.nbserve.proofs.Outcomes.{on_ok_then, if_ok_each}
 use Rattle.nbserve.proofs.Steps.{code_at, one_code, parents_there, may_run, defs_are, elements_are, cancelled_outcome, ran_outcome}
-use Rattle.nbserve.proofs.ThinCode.{thin_good}
 use Rattle.nbserve.proofs.kernel_state.KernelState.run_cell.Goals as goal
 
 pub all_ok-requires : goal.all_ok-requires
@@ -39,12 +38,12 @@ returns-then-not-all_ok-clause-plain g c = plain_without c.defs_of-defs.result.n
 pub run_code-requires-clause-levelled : goal.run_code-requires-clause-levelled
 run_code-requires-clause-levelled g c =
     let at = code_at c.args.self.now.notebook.now c.args.cell c.index-cells-cell.result c.requires.there (c.index-cells-cell.is ∙ ap (λ xs. get_or xs c.args.cell c.index-cells-cell.result) c.cells.ensures.cells) in
-    (thin_good (view_cells c.args.self.now.notebook.now) c.args.cell (view_cell c.index-cells-cell.result) c.requires.thin at).0
+    c.requires.runnable.levelled c.args.cell (view_cell c.index-cells-cell.result) at
 
 pub run_code-requires-clause-plain_code : goal.run_code-requires-clause-plain_code
 run_code-requires-clause-plain_code g c =
     let at = code_at c.args.self.now.notebook.now c.args.cell c.index-cells-cell.result c.requires.there (c.index-cells-cell.is ∙ ap (λ xs. get_or xs c.args.cell c.index-cells-cell.result) c.cells.ensures.cells) in
-    (thin_good (view_cells c.args.self.now.notebook.now) c.args.cell (view_cell c.index-cells-cell.result) c.requires.thin at).1
+    c.requires.runnable.plain c.args.cell (view_cell c.index-cells-cell.result) at
 
 pub run_code-requires-clause-plain : goal.run_code-requires-clause-plain
 run_code-requires-clause-plain g c = plain_without c.defs_of-defs.result.now c.args.self.now.env c.forget.new.env c.requires.plain c.forget.ensures
