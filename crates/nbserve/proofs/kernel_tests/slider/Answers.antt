@@ -2,7 +2,7 @@
 use Rattle.std.proofs.Common.{arith}
 use Rattle.std.proofs.lemmas.List.{length-map}
 use Rattle.py_tree.specs.View.{view_cell, view_cells}
-use Rattle.nbserve.proofs.ThinCode.{thin_few}
+use Rattle.kernel.proofs.ThinCode.{thin_few}
 use Rattle.nbserve.proofs.kernel_tests.slider.Goals as goal
 
 pub notebook-requires : goal.notebook-requires

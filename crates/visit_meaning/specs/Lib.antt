@@ -1,0 +1,5 @@
+pub mod Answer
+pub mod Messages
+pub mod Underway
+pub mod Whole
+pub mod WithElement
