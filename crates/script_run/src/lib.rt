@@ -1,10 +1,10 @@
 //! Scripts of a visitor, and their playing.
 #![tactic(auto)]
 
-mod play;
+mod frame_line;
+mod replay;
 mod script;
-mod texts;
 
-pub use play::{PlayFault, play};
+pub use frame_line::set_line;
+pub use replay::{PlayFault, play};
 pub use script::{ScriptFault, read_script};
-pub use texts::set_line;

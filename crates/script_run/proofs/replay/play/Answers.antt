@@ -10,10 +10,10 @@ use Rattle.py_tree.specs.View.{view_cells}
 use Rattle.script_run.proofs.Giving.{cut_behind, lines_append, lines_of, part_of_lines, took_lines}
 use Rattle.kernel.proofs.Outcomes.{if_err_of, on_err_always}
 use Rattle.script_run.proofs.Playing.{played_all, played_answer, played_begins, played_message, played_new}
-use Rattle.script_run.proofs.play.play.Goals as goal
+use Rattle.script_run.proofs.replay.play.Goals as goal
 use Rattle.script_run.specs.Cut.{IsCut}
-use Rattle.script_run.specs.declared.play.PlayFault.{PlayFault}
-use Rattle.script_run.specs.declared.play.PlayFault.TheVariants as play_fault
+use Rattle.script_run.specs.declared.replay.PlayFault.{PlayFault}
+use Rattle.script_run.specs.declared.replay.PlayFault.TheVariants as play_fault
 
 pub loop-message-init : goal.loop-message-init
 loop-message-init g c =

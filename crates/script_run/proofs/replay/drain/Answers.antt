@@ -2,10 +2,10 @@
 use Rattle.std.proofs.Common.{◌≡◌, arith}
 use Rattle.script_run.proofs.Giving.{given_begins, given_cut, given_next, given_none, given_part}
 use Rattle.kernel.proofs.Outcomes.{if_err_always, on_err_always}
-use Rattle.script_run.proofs.play.drain.Goals as goal
+use Rattle.script_run.proofs.replay.drain.Goals as goal
 use Rattle.script_run.specs.Cut.{IsCut}
-use Rattle.script_run.specs.declared.play.PlayFault.{PlayFault}
-use Rattle.script_run.specs.declared.play.PlayFault.TheVariants as play_fault
+use Rattle.script_run.specs.declared.replay.PlayFault.{PlayFault}
+use Rattle.script_run.specs.declared.replay.PlayFault.TheVariants as play_fault
 
 pub loop-frame-init : goal.loop-frame-init
 loop-frame-init g c = (omega arith, given_none c.args.label.now (g.O.Sink.taken c.args.out.now) c.args.kernel.now c.args.steps.now)

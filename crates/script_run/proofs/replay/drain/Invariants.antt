@@ -1,7 +1,7 @@
 -- the frames so far were written
 use Rattle.std.proofs.Common.{◌≤◌, length}
 use Rattle.script_run.proofs.Giving.{IsGiven}
-use Rattle.script_run.proofs.play.drain.Given as goal
+use Rattle.script_run.proofs.replay.drain.Given as goal
 
 abbrev pub invariant-loop-frame : goal.invariant-loop-frame
 invariant-loop-frame g l =

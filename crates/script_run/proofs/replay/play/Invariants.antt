@@ -4,7 +4,7 @@ use Rattle.link_io.specs.Outside.{Took}
 use Rattle.visit_meaning.specs.Answer.{Part}
 use Rattle.script_run.proofs.Giving.{lines_of}
 use Rattle.script_run.proofs.Playing.{IsPlayed}
-use Rattle.script_run.proofs.play.play.Given as goal
+use Rattle.script_run.proofs.replay.play.Given as goal
 
 abbrev pub invariant-loop-message : goal.invariant-loop-message
 invariant-loop-message g l =

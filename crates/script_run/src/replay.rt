@@ -8,7 +8,7 @@ ghost use Rattle.visit_meaning.specs.Messages.{AreMessages};
 ghost use Rattle.form_meaning.specs.Thin.{are_thin};
 ghost use Rattle.py_tree.specs.View.{view_cells};
 
-use crate::texts::set_line;
+use crate::frame_line::set_line;
 use cell_graph::Notebook;
 use kernel::{Kernel, Stepped, open};
 use link_io::{Failed, Sink, write_all};
@@ -29,7 +29,7 @@ pub enum PlayFault {
 
 impl From<Memory> for PlayFault {
     ghost use Rattle.std.specs.Prelude.{◌≡◌};
-    ghost use Rattle.script_run.specs.declared.play.PlayFault.TheVariants as fault;
+    ghost use Rattle.script_run.specs.declared.replay.PlayFault.TheVariants as fault;
 
     ghost from_gives = { λ why f. f ≡ fault.Memory };
 
@@ -40,7 +40,7 @@ impl From<Memory> for PlayFault {
 
 impl From<Failed> for PlayFault {
     ghost use Rattle.std.specs.Prelude.{◌≡◌};
-    ghost use Rattle.script_run.specs.declared.play.PlayFault.TheVariants as fault;
+    ghost use Rattle.script_run.specs.declared.replay.PlayFault.TheVariants as fault;
 
     ghost from_gives = { λ why f. f ≡ fault.WriteFault };
 
