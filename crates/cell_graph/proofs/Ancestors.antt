@@ -5,9 +5,9 @@ use Rattle.std.proofs.lemmas.List.{take_more, take_all, get_or_past, length-take
 use Rattle.std.proofs.lemmas.List.Elements.{filter-append}
 use Rattle.std.proofs.lemmas.Option.{slice_get-get_or}
 use Rattle.py_tree.specs.Trees.{Cell}
-use Rattle.notebook_meaning.specs.Graph.{edge, numbers_from, is_in, parents, IsChain, LiesOnCycle, AreCyclic}
-use Rattle.notebook_meaning.proofs.Orders.{to_cell, on_cycle_below}
-use Rattle.notebook_meaning.proofs.Reaching.{parent_by, edge_by}
+use Rattle.graph_meaning.specs.Graph.{edge, numbers_from, is_in, parents, IsChain, LiesOnCycle, AreCyclic}
+use Rattle.graph_meaning.proofs.Orders.{to_cell, on_cycle_below}
+use Rattle.graph_meaning.proofs.Reaching.{parent_by, edge_by}
 use Rattle.cell_graph.specs.Counts.{list_in}
 use Rattle.cell_graph.specs.Kept.{AreParents}
 use Rattle.cell_graph.specs.Marks.{is_marked}

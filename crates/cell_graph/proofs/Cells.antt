@@ -11,8 +11,8 @@ use Rattle.std.proofs.lemmas.Slice.Eq.{bytes_eq-Decides}
 use Rattle.py_tree.specs.Names.{Name, is_among}
 use Rattle.py_tree.specs.Scope.{defs}
 use Rattle.py_tree.specs.Trees.{Cell}
-use Rattle.notebook_meaning.specs.Graph.{names_at, defs_of, refs_of, numbers_from, all_cells, parents, order, defined_before, IsDoubled, NoneDoubled, AreCyclic}
-use Rattle.notebook_meaning.proofs.Orders.{short_is_cyclic}
+use Rattle.graph_meaning.specs.Graph.{names_at, defs_of, refs_of, numbers_from, all_cells, parents, order, defined_before, IsDoubled, NoneDoubled, AreCyclic}
+use Rattle.graph_meaning.proofs.Orders.{short_is_cyclic}
 use Rattle.cell_graph.specs.Definers.{names_in, FindsLists, lists_with}
 use Rattle.cell_graph.specs.Kept.{AreDefs, AreRefs, AreParents}
 use Rattle.cell_graph.proofs.LookUps.{in_earlier, in_next, within}

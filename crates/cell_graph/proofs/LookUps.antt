@@ -8,7 +8,7 @@ use Rattle.std.proofs.lemmas.Bool.{both_ways, cases_Bool, cases_lt, cases_order,
 use Rattle.std.proofs.lemmas.List.Folds.{list_any-append}
 use Rattle.std.proofs.lemmas.Slice.Eq.{bytes_eq-Decides}
 use Rattle.py_tree.specs.Names.{Name, is_among}
-use Rattle.notebook_meaning.specs.Graph.{numbers_from}
+use Rattle.graph_meaning.specs.Graph.{numbers_from}
 use Rattle.cell_graph.specs.Definers.{names_in, FindsLists, lists_with}
 use Rattle.cell_graph.proofs.Names.{filter_alike}
 use Rattle.cell_graph.proofs.Numbers.{inserted}

@@ -5,7 +5,7 @@ use Rattle.std.specs.Cmp.{nat_cmp_is}
 use Rattle.std.specs.Ordering.{nat_cmp, match_ordering}
 use Rattle.std.specs.declared.cmp.Ordering.TheVariants.{Less, Equal, Greater}
 use Rattle.std.proofs.lemmas.Bool.{both_ways, cases_Bool, cases_eq, eq-eqb, ne_eqb, and_left, and_right}
-use Rattle.notebook_meaning.specs.Graph.{numbers_from}
+use Rattle.graph_meaning.specs.Graph.{numbers_from}
 
 -- as many numbers for lists of the same length
 pub numbers_alike : {X Y : Type 0} (n : ℕ) (xs : List X) (ys : List Y) → length xs ≡ length ys → numbers_from n xs ≡ numbers_from n ys

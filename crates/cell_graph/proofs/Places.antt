@@ -2,7 +2,7 @@
 use Rattle.std.proofs.Common.{ℕ, zero, suc, ◌+◌, ◌≤◌, List, length, Option, Some, None, arith}
 use Rattle.std.proofs.lemmas.List.{length_push}
 use Rattle.py_tree.specs.Trees.{Cell}
-use Rattle.notebook_meaning.specs.Graph.{places, next_cell, with_next, order}
+use Rattle.graph_meaning.specs.Graph.{places, next_cell, with_next, order}
 
 pub one_at_most : (o : Option ℕ) (listed : List ℕ) → length (with_next o listed) ≤ length listed + 1
 one_at_most None listed = omega arith

@@ -7,8 +7,8 @@ use Rattle.std.proofs.lemmas.List.{append-nil, get_or_past, length-take-le, take
 use Rattle.std.proofs.lemmas.List.Elements.{filter_more}
 use Rattle.std.proofs.lemmas.List.Folds.{list_any-append}
 use Rattle.std.proofs.lemmas.List.Filters.{length-filter_both}
-use Rattle.notebook_meaning.specs.Graph.{numbers_from, is_in}
-use Rattle.notebook_meaning.proofs.Reaching.{any_from, some_in, passes, is_kept}
+use Rattle.graph_meaning.specs.Graph.{numbers_from, is_in}
+use Rattle.graph_meaning.proofs.Reaching.{any_from, some_in, passes, is_kept}
 use Rattle.cell_graph.specs.Counts.{list_in}
 use Rattle.cell_graph.specs.Places.{is_placed, ArePlaced}
 use Rattle.cell_graph.proofs.Numbers.{numbers_alike, filter_within, Popped, popped}

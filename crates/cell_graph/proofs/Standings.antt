@@ -6,10 +6,10 @@ use Rattle.std.proofs.lemmas.List.{take-take, take_all, take_at, get_or-take, le
 use Rattle.py_tree.specs.Names.{Name}
 use Rattle.py_tree.specs.Trees.{Cell}
 use Rattle.py_value.specs.Maps.{Map}
-use Rattle.notebook_meaning.specs.Graph.{numbers_from, edge, is_in, places, next_cell, with_next, order, NoneCyclic}
-use Rattle.notebook_meaning.specs.Reruns.{reads_one, is_within}
-use Rattle.notebook_meaning.proofs.Orders.{places_below, places_distinct, step_back, free_is_listed, to_cell}
-use Rattle.notebook_meaning.proofs.Reaching.{near_reader, near_next, near_from}
+use Rattle.graph_meaning.specs.Graph.{numbers_from, edge, is_in, places, next_cell, with_next, order, NoneCyclic}
+use Rattle.graph_meaning.specs.Reruns.{reads_one, is_within}
+use Rattle.graph_meaning.proofs.Orders.{places_below, places_distinct, step_back, free_is_listed, to_cell}
+use Rattle.graph_meaning.proofs.Reaching.{near_reader, near_next, near_from}
 use Rattle.cell_graph.specs.Counts.{list_in, AreTurned}
 use Rattle.cell_graph.specs.Kept.{AreRefs, AreParents}
 use Rattle.cell_graph.specs.Places.{is_placed, ArePlaced}

@@ -8,7 +8,7 @@ use Rattle.std.proofs.lemmas.List.Folds.{sum_by-zero}
 use Rattle.std.proofs.lemmas.List.Sums.{sum_by-cons, count_by_more_yes, sum_by-take-le}
 use Rattle.std.proofs.lemmas.Option.{slice_get-get_or}
 use Rattle.py_tree.specs.Trees.{Cell}
-use Rattle.notebook_meaning.specs.Graph.{numbers_from, all_cells, is_in, parents, edge, is_ready, next_cell, with_next, places}
+use Rattle.graph_meaning.specs.Graph.{numbers_from, all_cells, is_in, parents, edge, is_ready, next_cell, with_next, places}
 use Rattle.cell_graph.specs.Counts.{list_in, count_of, AreWithin, AreTurned}
 use Rattle.cell_graph.specs.Kept.{AreParents}
 use Rattle.cell_graph.proofs.Numbers.{numbers_alike, find_within, Popped, popped, none_popped}

@@ -5,7 +5,7 @@ use Rattle.std.specs.List.{list_any}
 use Rattle.std.specs.Str.{bytes_eq}
 use Rattle.indexmap.specs.IndexMap.{IndexMap, get_by}
 use Rattle.py_tree.specs.Names.{Name, is_among}
-use Rattle.notebook_meaning.specs.Graph.{numbers_from}
+use Rattle.graph_meaning.specs.Graph.{numbers_from}
 
 -- the list with this number, and no names past the last one
 abbrev pub names_in : List (List Name) → ℕ → List Name

@@ -2,7 +2,7 @@
 use Rattle.std.specs.Prelude.{◌≡◌, ℕ, List, length, slice_get, Some}
 use Rattle.py_tree.specs.Names.{Name}
 use Rattle.py_tree.specs.Trees.{Cell}
-use Rattle.notebook_meaning.specs.Graph as graph
+use Rattle.graph_meaning.specs.Graph as graph
 
 -- the names that each cell has by f
 pub record AreNames (f : List Cell → ℕ → List Name) (nb : List Cell) (kept : List (List Name)) : Type 0 where

@@ -1,7 +1,7 @@
 -- The places of cells in an order.
 use Rattle.std.specs.Prelude.{◌≡◌, ℕ, ◌<◌, ◌==◌, Bool, IsTrue, List, length, slice_index}
 use Rattle.std.specs.List.{list_any}
-use Rattle.notebook_meaning.specs.Graph.{is_in}
+use Rattle.graph_meaning.specs.Graph.{is_in}
 use Rattle.cell_graph.specs.Counts.{list_in}
 
 -- the place is that of one of the cells

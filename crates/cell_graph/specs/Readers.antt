@@ -2,7 +2,7 @@
 use Rattle.std.specs.Prelude.{◌≡◌, ℕ, List, [], unwrap_or}
 use Rattle.py_tree.specs.Names.{Name, is_among}
 use Rattle.py_value.specs.Maps.{Map, look_up}
-use Rattle.notebook_meaning.specs.Graph.{is_in}
+use Rattle.graph_meaning.specs.Graph.{is_in}
 use Rattle.cell_graph.specs.Definers.{names_in}
 
 -- the cells that the table has at a name

@@ -2,7 +2,7 @@
 use Rattle.std.specs.Prelude.{List}
 use Rattle.cell_graph.specs.declared.fault.GraphFault.{GraphFault}
 use Rattle.cell_graph.specs.declared.fault.GraphFault.TheVariants.{Doubly, Cycle, Memory}
-use Rattle.notebook_meaning.specs.Graph.{IsDoubled, IsCyclic}
+use Rattle.graph_meaning.specs.Graph.{IsDoubled, IsCyclic}
 use Rattle.py_tree.specs.Trees.{Cell}
 
 -- Want of memory has no cause here.

@@ -5,7 +5,7 @@ ghost use Rattle.py_tree.specs.Trees.{Cell};
 ghost use Rattle.cell_graph.specs.Definers.{list_at, lists_with, FindsLists};
 ghost use Rattle.cell_graph.specs.Kept.{AreDefs, AreRefs, AreParents};
 ghost use Rattle.cell_graph.specs.Refused.{IsCauseOf};
-ghost use Rattle.notebook_meaning.specs.Graph.{NoneDoubled};
+ghost use Rattle.graph_meaning.specs.Graph.{NoneDoubled};
 
 use crate::cell_list::CellList;
 use crate::definers::{Definers, definers};

@@ -2,7 +2,7 @@
 ghost use Rattle.std.specs.Prelude.{◌≡◌, ◌^◌, ◌<◌, IfOk, IfErr, length};
 ghost use Rattle.cell_graph.specs.Kept.{AreDefs, AreRefs, AreElements};
 ghost use Rattle.cell_graph.specs.Refused.{IsCauseOf};
-ghost use Rattle.notebook_meaning.specs.Graph.{NoneDoubled, NoneCyclic};
+ghost use Rattle.graph_meaning.specs.Graph.{NoneDoubled, NoneCyclic};
 ghost use Rattle.py_tree.specs.View.{view_cells};
 
 use crate::ancestry::all_parents;

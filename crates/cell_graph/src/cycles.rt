@@ -4,7 +4,7 @@ ghost use Rattle.std.specs.List.{All, count_by};
 ghost use Rattle.cell_graph.specs.Counts.{AreWithin};
 ghost use Rattle.cell_graph.specs.Kept.{AreParents};
 ghost use Rattle.cell_graph.specs.Marks.{is_marked};
-ghost use Rattle.notebook_meaning.specs.Graph.{is_in, LiesOnCycle, AreCyclic};
+ghost use Rattle.graph_meaning.specs.Graph.{is_in, LiesOnCycle, AreCyclic};
 ghost use Rattle.py_tree.specs.Trees.{Cell};
 
 use crate::cell_list::CellList;

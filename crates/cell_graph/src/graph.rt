@@ -1,7 +1,7 @@
 // Notebooks with their graph.
 ghost use Rattle.std.specs.Prelude.{◌≡◌, ℕ, ◌<◌, IsTrue, IfOk, length};
-ghost use Rattle.notebook_meaning.specs.Graph as graph;
-ghost use Rattle.notebook_meaning.specs.Reruns.{rerun};
+ghost use Rattle.graph_meaning.specs.Graph as graph;
+ghost use Rattle.graph_meaning.specs.Reruns.{rerun};
 ghost use Rattle.py_tree.specs.View.{view_cells};
 
 use crate::cell_list::CellList;
@@ -37,7 +37,7 @@ impl Model for Notebook {
     ghost use Rattle.cell_graph.specs.Places.{ArePlaced};
     ghost use Rattle.cell_graph.specs.Readers.{HasReaders};
     ghost use Rattle.cell_graph.specs.Kept.{AreDefs, AreRefs, AreElements, AreParents};
-    ghost use Rattle.notebook_meaning.specs.Graph as graph;
+    ghost use Rattle.graph_meaning.specs.Graph as graph;
 
     ghost Value = { List CellCode };
 

@@ -2,7 +2,7 @@
 ghost use Rattle.std.specs.Prelude.{◌≡◌, ◌^◌, ◌<◌, List, IfOk, length};
 ghost use Rattle.cell_graph.specs.Counts.{AreWithin, AreTurned};
 ghost use Rattle.cell_graph.specs.Kept.{AreParents};
-ghost use Rattle.notebook_meaning.specs.Graph.{order};
+ghost use Rattle.graph_meaning.specs.Graph.{order};
 ghost use Rattle.py_tree.specs.Trees.{Cell};
 
 use crate::cell_list::CellList;

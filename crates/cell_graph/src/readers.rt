@@ -2,7 +2,7 @@
 ghost use Rattle.std.specs.Prelude.{◌≡◌, ℕ, ◌^◌, ◌<◌, ◌==◌, ◌&&◌, ◌||◌, IfOk, OnOk, length};
 ghost use Rattle.py_tree.specs.Names.{Name, is_among};
 ghost use Rattle.cell_graph.specs.Readers.{cells_at, HasReaders};
-ghost use Rattle.notebook_meaning.specs.Graph.{is_in};
+ghost use Rattle.graph_meaning.specs.Graph.{is_in};
 
 use crate::cell_list::CellList;
 use py_value::{Lines, Memory, NameMap, Text};

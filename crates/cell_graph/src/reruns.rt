@@ -4,7 +4,7 @@ ghost use Rattle.std.specs.List.{All, list_any};
 ghost use Rattle.py_tree.specs.Names.{Name};
 ghost use Rattle.cell_graph.specs.Places.{is_placed};
 ghost use Rattle.cell_graph.specs.Readers.{cells_at};
-ghost use Rattle.notebook_meaning.specs.Graph.{numbers_from};
+ghost use Rattle.graph_meaning.specs.Graph.{numbers_from};
 
 use crate::readers::Readers;
 use py_value::{Memory, Text};

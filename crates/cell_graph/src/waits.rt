@@ -2,7 +2,7 @@
 ghost use Rattle.std.specs.Prelude.{◌≡◌, ℕ, ◌+◌, ◌^◌, ◌<◌, ◌≤◌, ◌==◌, ◌&&◌, ◌||◌, Bool, IfOk, OnOk, length, filter, map, slice_index};
 ghost use Rattle.std.specs.List.{All};
 ghost use Rattle.cell_graph.specs.Counts.{count_of};
-ghost use Rattle.notebook_meaning.specs.Graph.{numbers_from, is_in};
+ghost use Rattle.graph_meaning.specs.Graph.{numbers_from, is_in};
 
 use crate::cell_list::CellList;
 use py_value::Memory;

@@ -2,7 +2,7 @@
 use Rattle.std.proofs.Common.{◌≡◌, ◌∙◌, ap, ℕ, List, [], ◌∷◌, ◌++◌, append_assoc, append-nil}
 use Rattle.std.specs.Prelude.{cond, flat_map, map, Result, Ok, Err, is_ok, OnOk}
 use Rattle.std.specs.List.{join_with_byte}
-use Rattle.notebook_meaning.specs.FrameText.{quoted}
+use Rattle.frame_meaning.specs.FrameText.{quoted}
 
 -- each string but the first stands after a comma
 pub joined : (x : List ℕ) (xs : List (List ℕ))

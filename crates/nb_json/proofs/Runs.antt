@@ -4,7 +4,7 @@ use Rattle.std.proofs.Math.Seq.{take-suc}
 use Rattle.std.proofs.lemmas.Grind.{common_steps, flat_map-append}
 use Rattle.std.proofs.lemmas.Bool.Decides.{nat_tests}
 use Rattle.std.specs.Prelude.{flat_map, ◌||◌, ◌==◌, nat_lt}
-use Rattle.notebook_meaning.specs.FrameText.{escaped_byte}
+use Rattle.frame_meaning.specs.FrameText.{escaped_byte}
 
 -- a byte that needs no escape stands for itself
 plain : (x : ℕ) → ((nat_lt x 32 || (x == 34)) || (x == 92)) ≡ false → escaped_byte x ≡ x ∷ []

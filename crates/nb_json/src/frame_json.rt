@@ -1,9 +1,9 @@
 // The text of frames.
 ghost use Rattle.std.specs.Prelude.{◌≡◌, ◌∷◌, ◌++◌, OnOk, flat_map, map};
-ghost use Rattle.notebook_meaning.specs.FrameText.{quoted, array, kind_name, status_name, output_name, error_text, output_text, cell_text, named_refused_text, frame_text};
+ghost use Rattle.frame_meaning.specs.FrameText.{quoted, array, kind_name, status_name, output_name, error_text, output_text, cell_text, named_refused_text, frame_text};
 
 use crate::json_text::{push_number, push_quoted};
-use notebook_meaning::{CellError, CellFrame, Frame, Output, OutputKind, Status};
+use frames::{CellError, CellFrame, Frame, Output, OutputKind, Status};
 use py_value::{ErrorKind, Memory, Text};
 use std::alloc::{AllocError, Global};
 

@@ -1,7 +1,7 @@
 // Strings and numbers of JSON.
 ghost use Rattle.std.specs.Prelude.{◌≡◌, ◌<◌, ◌++◌, ◌||◌, ◌==◌, nat_lt, OnOk, decimal, flat_map, false};
 ghost use Rattle.std.specs.Fmt.{digit_glyph};
-ghost use Rattle.notebook_meaning.specs.FrameText.{escaped_byte, quoted};
+ghost use Rattle.frame_meaning.specs.FrameText.{escaped_byte, quoted};
 
 use std::alloc::{AllocError, Global};
 

@@ -1,6 +1,6 @@
 // The text of frames, as RFC 8259 has it.
 use crate::push_frame;
-use notebook_meaning::{CellError, CellFrame, Frame, Output, OutputKind, Status};
+use frames::{CellError, CellFrame, Frame, Output, OutputKind, Status};
 use py_value::{ErrorKind, Lines, Memory, Text};
 use std::alloc::Global;
 use std::test::Fail;

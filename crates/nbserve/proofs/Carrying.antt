@@ -3,15 +3,15 @@ use Rattle.std.proofs.Common.{◌≡◌, refl, subst, inl, inr, ℕ, ◌+◌, �
 use Rattle.std.specs.Prelude.{Option, Some, IfSome, codes}
 use Rattle.link_io.specs.Outside.{Rose, Took}
 use Rattle.link_io.proofs.Taken.{rose_since, took_both, took_part}
-use Rattle.notebook_meaning.specs.Answer.{Part, cost_of_parts, frames_in}
-use Rattle.notebook_meaning.specs.FrameText.{labelled}
-use Rattle.notebook_meaning.specs.Program as program
-use Rattle.notebook_meaning.specs.Program.{Comes, Command, Play, command_of, notebook_of, AreRead, FailsFirst, IsLoaded, Refusal, read_of, refusal_text}
-use Rattle.notebook_meaning.specs.Scripts.{FaultAt, fault_text}
+use Rattle.visit_meaning.specs.Answer.{Part, cost_of_parts, frames_in}
+use Rattle.frame_meaning.specs.FrameText.{labelled}
+use Rattle.program_meaning.specs.Program as program
+use Rattle.program_meaning.specs.Program.{Comes, Command, Play, command_of, notebook_of, AreRead, FailsFirst, IsLoaded, Refusal, read_of, refusal_text}
+use Rattle.program_meaning.specs.Scripts.{FaultAt, fault_text}
 use Rattle.py_tree.specs.Trees.{Cell}
 use Rattle.nbserve.specs.Carried.{IsPlayed}
-use Rattle.nbserve.specs.Cut as cut
-use Rattle.nbserve.specs.Cut.{IsCutOff}
+use Rattle.script_run.specs.Cut as cut
+use Rattle.script_run.specs.Cut.{IsCutOff}
 use Rattle.nbserve.specs.Refused.{refusal_of}
 use Rattle.nbserve.specs.Stops.{IsStopped, IsUnloaded, IsUnplayed, Why}
 use Rattle.nbserve.specs.Wrote as wrote

@@ -1,8 +1,8 @@
 -- Why bytes are refused, by the fault of the form.
 use Rattle.std.proofs.Common.{List, ℕ}
-use Rattle.line_parser.specs.Refused.{IsCauseOf}
-use Rattle.line_parser.specs.declared.thin_file.ThinFault.{ThinFault}
-use Rattle.line_parser.specs.declared.thin_file.ThinFault.TheVariants as form
+use Rattle.thin_form.specs.Refused.{IsCauseOf}
+use Rattle.thin_form.specs.declared.thin_file.ThinFault.{ThinFault}
+use Rattle.thin_form.specs.declared.thin_file.ThinFault.TheVariants as form
 use Rattle.nbserve.specs.Stops.{IsWhy, of_form}
 
 pub refused_by_form : (bytes : List ℕ) (fault : ThinFault) → IsCauseOf fault bytes → IsWhy (of_form fault) bytes

@@ -3,17 +3,17 @@ use Rattle.std.proofs.Common.{◌≡◌, ◌∙◌, refl, sym, ap, subst, inl, i
 use Rattle.std.specs.Prelude.{Option, Some, None, IfSome}
 use Rattle.std.proofs.lemmas.Option.{same_Some}
 use Rattle.link_io.specs.Outside.{Took}
-use Rattle.line_parser.proofs.OneRefusal.{none_refused}
-use Rattle.line_parser.proofs.OneToOne.{same_form}
-use Rattle.notebook_meaning.specs.Answer.{Before, Message, Open, cost_of_parts, parts_from, work}
-use Rattle.notebook_meaning.specs.Program as program
-use Rattle.notebook_meaning.specs.Program.{Comes, Command, Once, Play, command_of, notebook_of, AreRead, IsAccepted, IsLoaded, IsRefused, Refusal, FailsFirst, read_of, once_text, usual_budget}
-use Rattle.notebook_meaning.specs.Scripts.{Script, IsScript, IsNoScript, FaultAt, messages_of, script_text}
+use Rattle.nbserve.proofs.OneRefusal.{none_refused}
+use Rattle.thin_form.proofs.OneToOne.{same_form}
+use Rattle.visit_meaning.specs.Answer.{Before, Message, Open, cost_of_parts, parts_from, work}
+use Rattle.program_meaning.specs.Program as program
+use Rattle.program_meaning.specs.Program.{Comes, Command, Once, Play, command_of, notebook_of, AreRead, IsAccepted, IsLoaded, IsRefused, Refusal, FailsFirst, read_of, once_text, usual_budget}
+use Rattle.program_meaning.specs.Scripts.{Script, IsScript, IsNoScript, FaultAt, messages_of, script_text}
 use Rattle.py_tree.specs.Trees.{Cell}
-use Rattle.notebook_meaning.proofs.ScriptTexts as scripts_read
+use Rattle.program_meaning.proofs.ScriptTexts as scripts_read
 use Rattle.nbserve.specs.Carried as carried
 use Rattle.nbserve.specs.Carried.{Carried}
-use Rattle.nbserve.specs.Cut.{IsCutOff}
+use Rattle.script_run.specs.Cut.{IsCutOff}
 use Rattle.nbserve.specs.Stops.{IsStopped, status_of, stop_line}
 use Rattle.nbserve.specs.Works as works
 use Rattle.nbserve.specs.Works.{Works, label_of, last_of}

@@ -1,5 +1,5 @@
 -- The words' command, as definitions speak of it.
-use Rattle.notebook_meaning.specs.Program as program
+use Rattle.program_meaning.specs.Program as program
 use Rattle.nbserve.specs.declared.words.Command.{Command}
 use Rattle.nbserve.specs.declared.words.Command.TheVariants as command
 

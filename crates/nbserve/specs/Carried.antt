@@ -1,11 +1,11 @@
 -- Commands that are carried out.
 use Rattle.std.specs.Prelude.{◌≡◌, ℕ, ◌+◌, List, [], ◌∷◌, ◌++◌, codes, Option, Some}
-use Rattle.notebook_meaning.specs.Answer.{Before, Message, Open, parts_from, solo, work}
-use Rattle.notebook_meaning.specs.FrameText.{labelled}
-use Rattle.notebook_meaning.specs.Program.{Once, Play, command_of, AreRead, IsLoaded, usual_budget}
-use Rattle.notebook_meaning.specs.Scripts.{Script, IsScript, messages_of}
+use Rattle.visit_meaning.specs.Answer.{Before, Message, Open, parts_from, solo, work}
+use Rattle.frame_meaning.specs.FrameText.{labelled}
+use Rattle.program_meaning.specs.Program.{Once, Play, command_of, AreRead, IsLoaded, usual_budget}
+use Rattle.program_meaning.specs.Scripts.{Script, IsScript, messages_of}
 use Rattle.py_tree.specs.Trees.{Cell}
-use Rattle.nbserve.specs.Cut.{IsCutOff}
+use Rattle.script_run.specs.Cut.{IsCutOff}
 use Rattle.nbserve.specs.Wrote.{Ended}
 
 -- The frames of these messages were written, each behind the label, and then the last text; or a beginning of all this. At status 0 the

@@ -1,14 +1,6 @@
 pub mod Asked
 pub mod Carried
-pub mod Coming
-pub mod Cut
-pub mod KernelState
-pub mod Ran
-pub mod Read
 pub mod Refused
-pub mod ScriptRead
 pub mod Stops
-pub mod Visit
-pub mod Visits
 pub mod Works
 pub mod Wrote

@@ -1,5 +1,5 @@
 -- Refusals, as definitions speak of them.
-use Rattle.notebook_meaning.specs.Program as program
+use Rattle.program_meaning.specs.Program as program
 use Rattle.nbserve.specs.declared.refusal.Refusal.{Refusal}
 use Rattle.nbserve.specs.declared.refusal.Refusal.TheVariants as refusal
 

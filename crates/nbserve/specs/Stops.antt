@@ -2,14 +2,14 @@
 use Rattle.std.specs.Prelude.{◌≡◌, ◌⊎◌, ℕ, List, [], codes, Option}
 use Rattle.cell_graph.specs.declared.fault.GraphFault.{GraphFault}
 use Rattle.cell_graph.specs.declared.fault.GraphFault.TheVariants as graph
-use Rattle.line_parser.specs.declared.thin_file.ThinFault.{ThinFault}
-use Rattle.line_parser.specs.declared.thin_file.ThinFault.TheVariants as form
-use Rattle.notebook_meaning.specs.Program as program
-use Rattle.notebook_meaning.specs.Program.{AreRead, Comes, FailsFirst, refusal_text}
-use Rattle.notebook_meaning.specs.Scripts.{FaultAt, fault_text}
+use Rattle.thin_form.specs.declared.thin_file.ThinFault.{ThinFault}
+use Rattle.thin_form.specs.declared.thin_file.ThinFault.TheVariants as form
+use Rattle.program_meaning.specs.Program as program
+use Rattle.program_meaning.specs.Program.{AreRead, Comes, FailsFirst, refusal_text}
+use Rattle.program_meaning.specs.Scripts.{FaultAt, fault_text}
 use Rattle.nbserve.specs.declared.refusal.Refusal.TheVariants as refusal
-use Rattle.nbserve.specs.declared.script.ScriptFault.{ScriptFault}
-use Rattle.nbserve.specs.declared.script.ScriptFault.TheVariants as script
+use Rattle.script_run.specs.declared.script.ScriptFault.{ScriptFault}
+use Rattle.script_run.specs.declared.script.ScriptFault.TheVariants as script
 use Rattle.nbserve.specs.declared.stop.Stop.{Stop}
 use Rattle.nbserve.specs.declared.stop.Stop.TheVariants as stop
 use Rattle.nbserve.specs.Refused.{refusal_of}

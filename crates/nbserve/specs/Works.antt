@@ -1,8 +1,8 @@
 -- Commands that can be carried out.
 use Rattle.std.specs.Prelude.{◌≡◌, ℕ, List, [], ◌∷◌, codes, Option, Some}
-use Rattle.notebook_meaning.specs.Answer.{Message, Open}
-use Rattle.notebook_meaning.specs.Program.{Command, Once, Play, command_of, IsAccepted, read_of}
-use Rattle.notebook_meaning.specs.Scripts.{Script, IsScript, messages_of}
+use Rattle.visit_meaning.specs.Answer.{Message, Open}
+use Rattle.program_meaning.specs.Program.{Command, Once, Play, command_of, IsAccepted, read_of}
+use Rattle.program_meaning.specs.Scripts.{Script, IsScript, messages_of}
 use Rattle.py_tree.specs.Trees.{Cell}
 
 -- The words ask for a command that can be carried out, and the files tell it: the cells of its notebook are accepted, and these messages

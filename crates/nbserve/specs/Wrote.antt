@@ -1,7 +1,7 @@
 -- What the program wrote at each status.
 use Rattle.std.specs.Prelude.{◌≡◌, ℕ, List, [], Option}
 use Rattle.link_io.specs.Outside.{Took, TookPart}
-use Rattle.notebook_meaning.specs.Program.{Comes}
+use Rattle.program_meaning.specs.Program.{Comes}
 
 -- The text of a status was written; or a beginning of it, where a write failed (4) or memory was wanting (5).
 pub data Ended (status : ℕ) (text : List ℕ) (result : ℕ) (before now : Option (List ℕ)) (unwritten : Type 0) : Type 0 where

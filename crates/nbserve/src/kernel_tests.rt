@@ -1,15 +1,14 @@
 // Calls of a kernel over a notebook with a slider. The texts that are wanted are written by hand.
 ghost use Rattle.std.specs.Prelude.{◌≡◌, ◌<◌, IfOk};
-ghost use Rattle.notebook_meaning.specs.Runnable.{Runnable};
+ghost use Rattle.visit_meaning.specs.Runnable.{Runnable};
 ghost use Rattle.py_tree.specs.View.{view_cells};
 
-use crate::answers::{Delivered, Stepped};
-use crate::kernel::{Kernel, open};
+use crate::loading::load;
 use crate::stop::Stop;
-use crate::texts::set_line;
-use cell_graph::{Notebook, notebook};
-use line_parser::thin;
-use notebook_meaning::CellFrame;
+use kernel::{Delivered, Kernel, Stepped, open};
+use script_run::set_line;
+use cell_graph::Notebook;
+use frames::CellFrame;
 use py_eval::Steps;
 use py_value::{Memory, Value};
 use std::alloc::{AllocError, Global};
@@ -52,7 +51,7 @@ use Call::{Deliver, Newest, Pending, Present, Step};
 fn slider(alloc: Global) -> Result<Notebook, Stop>
     ensures { IfOk result (λ nb. Runnable (view_cells nb)) }
 {
-    Ok(notebook(alloc, thin(alloc, SLIDER)?)?)
+    load(alloc, SLIDER)
 }
 
 // The line of what a delivery came to.

@@ -1,24 +1,16 @@
-// What holds of every visit.
-ghost use Rattle.std.specs.Prelude.{◌≡◌, ℕ, List, [], ◌∷◌, sum};
-ghost use Rattle.notebook_meaning.specs.Answer.{Open, work};
-ghost use Rattle.notebook_meaning.specs.Whole.{whole};
-ghost use Rattle.nbserve.specs.Visit.{Visit, begun};
-ghost use Rattle.nbserve.specs.Visits.{Call, Leads, IsSolo, taken_by, given_by};
+// What holds of every refusal.
+ghost use Rattle.std.specs.Prelude.{◌≡◌, ℕ, List};
+ghost use Rattle.form_meaning.specs.Fails.{IsFormless, FailsAt};
+ghost use Rattle.program_meaning.specs.Program.{IsAccepted, Refusal, FailsFirst};
 ghost use Rattle.py_tree.specs.Trees.{Cell};
-ghost use Rattle.py_tree.specs.declared.tree.CellCode.{CellCode};
 
-/// Whatever calls of `deliver` and `step` follow one another from the beginning of a visit, the frames that were given and those that are
-/// still to come are exactly the frames of a visitor alone who sends the messages that were taken; and the steps are exactly those of the cells
-/// that run for them.
-pub fn every_visit()
-    ensures solo { (nb : List CellCode) (budget : ℕ) (calls : List Call) (after : Visit)
-        (count count_after : ℕ)
-        → Leads calls (begun nb budget) after count count_after
-        → IsSolo nb budget (taken_by calls) (given_by calls) after count count_after }
-{}
-
-/// The messages of a visitor who only opens a notebook cost what the whole notebook costs.
-pub fn opening_costs()
-    ensures whole { (nb : List Cell) (budget : ℕ)
-        → work nb budget (Open ∷ []) ≡ sum (whole nb budget []).costs }
+/// No bytes are both accepted and refused, and they are refused for one reason alone. Bytes of no file fail at some line: it isn't
+/// so that they fail at none.
+pub fn one_refusal()
+    ensures apart { (bytes : List ℕ) (nb : List Cell) (why : Refusal) → IsAccepted bytes nb
+        → FailsFirst bytes why → ⊥ }
+    ensures line { (bytes : List ℕ) (m n : ℕ) → FailsAt bytes m → FailsAt bytes n → m ≡ n }
+    ensures some { (bytes : List ℕ) → IsFormless bytes → ((n : ℕ) → FailsAt bytes n → ⊥) → ⊥ }
+    ensures once { (bytes : List ℕ) (a b : Refusal) → FailsFirst bytes a → FailsFirst bytes b
+        → a ≡ b }
 {}

@@ -1,12 +1,12 @@
 // Notebooks from their files.
 ghost use Rattle.std.specs.Prelude.{IfErr, IfOk};
 ghost use Rattle.nbserve.specs.Stops.{IsWhy};
-ghost use Rattle.notebook_meaning.specs.Program.{IsAccepted};
+ghost use Rattle.program_meaning.specs.Program.{IsAccepted};
 ghost use Rattle.py_tree.specs.View.{view_cells};
 
 use crate::stop::Stop;
 use cell_graph::{Notebook, notebook};
-use line_parser::thin;
+use thin_form::thin;
 use std::alloc::Global;
 
 /// The notebook of which these bytes are the file. They have the form, no name is defined in two cells, and no cell lies on a cycle.

@@ -3,26 +3,14 @@
 
 ghost use Rattle.std.specs.Prelude.{◌≡◌, ◌<◌};
 
-mod answers;
-mod cell_frame;
-mod cell_run;
-mod coming;
-mod kernel;
-mod kernel_state;
 #[cfg(test)]
 mod kernel_tests;
 pub mod laws;
 mod loading;
-mod message;
-mod play;
 mod refusal;
-mod script;
-mod stepping;
 mod stop;
-mod taking;
 #[cfg(test)]
 mod tests;
-mod texts;
 mod top;
 mod words;
 

@@ -4,13 +4,13 @@ ghost use Rattle.link_io.specs.Outside.{Rose};
 ghost use Rattle.nbserve.specs.Refused.{refusal_of};
 ghost use Rattle.nbserve.specs.Stops.{status_of, stop_line};
 ghost use Rattle.nbserve.specs.Wrote.{Ended};
-ghost use Rattle.notebook_meaning.specs.Program as program;
-ghost use Rattle.notebook_meaning.specs.Scripts as scripts;
+ghost use Rattle.program_meaning.specs.Program as program;
+ghost use Rattle.program_meaning.specs.Scripts as scripts;
 
 use crate::refusal::{Refusal, refusal_text};
-use crate::script::ScriptFault;
+use script_run::ScriptFault;
 use cell_graph::GraphFault;
-use line_parser::ThinFault;
+use thin_form::ThinFault;
 use link_io::{Sink, write_all};
 use std::alloc::Global;
 

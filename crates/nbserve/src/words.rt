@@ -1,7 +1,7 @@
 // The words of the command line.
 ghost use Rattle.std.specs.Prelude.{◌≡◌, map, option_map, string_bytes};
 ghost use Rattle.nbserve.specs.Asked.{asked};
-ghost use Rattle.notebook_meaning.specs.Program.{command_of, is_positional, notebook_of};
+ghost use Rattle.program_meaning.specs.Program.{command_of, is_positional, notebook_of};
 
 /// What the program is to do.
 #[derive(Clone, Copy)]

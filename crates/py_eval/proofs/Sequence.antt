@@ -2,8 +2,8 @@
 use Rattle.std.proofs.Common.{◌≡◌, ℕ, List, [], refl, sym, ap, ◌∙◌, subst}
 use Rattle.std.specs.Prelude.{Result, Err, IsErrAnd}
 use Rattle.std.proofs.lemmas.Result.{err_from_is_err_and}
-use Rattle.notebook_meaning.specs.Trace.{Trace, Gives, Faults, Charges, Prints, ◌>>=◌}
-use Rattle.notebook_meaning.specs.Spending.{Spending, Got, Failed, Spent, then_spend, pay, show, spend}
+use Rattle.run_meaning.specs.Trace.{Trace, Gives, Faults, Charges, Prints, ◌>>=◌}
+use Rattle.run_meaning.specs.Spending.{Spending, Got, Failed, Spent, then_spend, pay, show, spend}
 use Rattle.py_eval.specs.declared.meter.Stop.{Stop}
 use Rattle.py_eval.specs.declared.meter.Stop.TheVariants as stop
 use Rattle.py_eval.specs.Meets.{Meets, Stops, unit}

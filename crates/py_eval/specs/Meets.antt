@@ -1,6 +1,6 @@
 -- What the evaluator answers, against a run under a budget. Nothing that it runs prints, so no lines are printed.
 use Rattle.std.specs.Prelude.{◌≡◌, ℕ, [], Result, Ok, Err}
-use Rattle.notebook_meaning.specs.Spending.{Spending, Got, Failed, Spent}
+use Rattle.run_meaning.specs.Spending.{Spending, Got, Failed, Spent}
 use Rattle.py_value.specs.Faults.{kind_of}
 use Rattle.py_value.specs.declared.op_fault.OpFault.{OpFault}
 use Rattle.py_value.specs.declared.op_fault.OpFault.TheVariants as fault

@@ -1,7 +1,7 @@
 -- What a run answers, against what it is.
 use Rattle.std.specs.Prelude.{◌≡◌, ℕ, ◌-◌, None}
-use Rattle.notebook_meaning.specs.Meaning.{Env, Flow, Scene}
-use Rattle.notebook_meaning.specs.Spending.{Spending, Got, Failed, Spent}
+use Rattle.run_meaning.specs.Meaning.{Env, Flow, Scene}
+use Rattle.run_meaning.specs.Spending.{Spending, Got, Failed, Spent}
 use Rattle.py_eval.specs.declared.run.End.TheVariants as end
 use Rattle.py_eval.specs.declared.run.Ran.{Ran}
 use Rattle.py_eval.specs.declared.scene.Scene.{Scene as Given}

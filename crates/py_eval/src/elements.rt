@@ -1,8 +1,8 @@
 // Elements of the user interface.
 ghost use Rattle.std.specs.Prelude.{◌≡◌, ℕ, ◌≤◌, [], IsTrue, codes};
-ghost use Rattle.notebook_meaning.specs.Meaning.{read_module, element_of, calls_for, made_at};
-ghost use Rattle.notebook_meaning.specs.Meaning as meaning;
-ghost use Rattle.notebook_meaning.specs.Spending.{spend};
+ghost use Rattle.run_meaning.specs.Meaning.{read_module, element_of, calls_for, made_at};
+ghost use Rattle.run_meaning.specs.Meaning as meaning;
+ghost use Rattle.run_meaning.specs.Spending.{spend};
 ghost use Rattle.py_eval.specs.Meets.{Meets, unit};
 ghost use Rattle.py_eval.specs.Shows.{scene_of};
 ghost use Rattle.py_tree.specs.Levels.{are_levelled_trees};
@@ -13,7 +13,7 @@ ghost use Rattle.py_value.specs.Maps.{look_up};
 use crate::eval::eval_all;
 use crate::meter::{Stop, charge, stop_at, unknown_form};
 use crate::scene::{Env, Scene};
-use notebook_meaning::Binding;
+use run_meaning::Binding;
 use py_tree::{Expr, Spelling, ui_kind};
 use py_value::{ErrorKind, Kind, Lines, Text, Value, Values, copy, operand_charge};
 use std::alloc::Global;

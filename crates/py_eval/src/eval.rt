@@ -1,10 +1,10 @@
 // The values of expressions.
 ghost use Rattle.std.specs.Prelude.{◌≡◌, ℕ, ◌<◌, ◌≤◌, [], IsTrue, OnOk, codes};
 ghost use Rattle.std.specs.Str.{bytes_eq};
-ghost use Rattle.notebook_meaning.specs.Meaning.{read, value_of, values_after, result_at};
-ghost use Rattle.notebook_meaning.specs.Meaning as meaning;
-ghost use Rattle.notebook_meaning.specs.Spending.{spend};
-ghost use Rattle.notebook_meaning.specs.Trace.{◌>>=◌ as ◌followed_by◌};
+ghost use Rattle.run_meaning.specs.Meaning.{read, value_of, values_after, result_at};
+ghost use Rattle.run_meaning.specs.Meaning as meaning;
+ghost use Rattle.run_meaning.specs.Spending.{spend};
+ghost use Rattle.run_meaning.specs.Trace.{◌>>=◌ as ◌followed_by◌};
 ghost use Rattle.py_eval.specs.Meets.{Meets};
 ghost use Rattle.py_eval.specs.Shows.{scene_of};
 ghost use Rattle.py_tree.specs.Levels.{is_levelled, are_levelled_trees};
@@ -16,7 +16,7 @@ ghost use Rattle.py_value.specs.Whole.{sum_of};
 use crate::elements::present_of;
 use crate::meter::{Stop, charge, stop_at, unknown_form};
 use crate::scene::{Env, Scene};
-use notebook_meaning::Binding;
+use run_meaning::Binding;
 use py_tree::{Expr, Spelling, literal_int};
 use py_value::{ErrorKind, Value, add, copy};
 use std::alloc::Global;

@@ -1,8 +1,8 @@
 // The lines of a block.
 ghost use Rattle.std.specs.Prelude.{◌≡◌, ℕ, ◌≤◌, [], IsTrue, not};
-ghost use Rattle.notebook_meaning.specs.Meaning.{bind, right_of, head_of, block_of};
-ghost use Rattle.notebook_meaning.specs.Meaning as meaning;
-ghost use Rattle.notebook_meaning.specs.Spending.{spend};
+ghost use Rattle.run_meaning.specs.Meaning.{bind, right_of, head_of, block_of};
+ghost use Rattle.run_meaning.specs.Meaning as meaning;
+ghost use Rattle.run_meaning.specs.Spending.{spend};
 ghost use Rattle.py_eval.specs.Meets.{Meets};
 ghost use Rattle.py_eval.specs.Shows.{scene_of};
 ghost use Rattle.py_tree.specs.Levels.{is_levelled, is_levelled_head, are_levelled};
@@ -15,7 +15,7 @@ use crate::elements::called;
 use crate::eval::eval;
 use crate::meter::{Stop, charge};
 use crate::scene::{Env, Scene};
-use notebook_meaning::Binding;
+use run_meaning::Binding;
 use py_tree::{Expr, Line, Spelling, Stmt};
 use py_value::{ErrorKind, Text, Value};
 use std::alloc::Global;

@@ -1,6 +1,6 @@
 // What is left of a budget of steps, and why a run stops.
 ghost use Rattle.std.specs.Prelude.{◌≡◌, ◌+◌, ◌≤◌, [], OnOk};
-ghost use Rattle.notebook_meaning.specs.Spending.{pay};
+ghost use Rattle.run_meaning.specs.Spending.{pay};
 ghost use Rattle.py_eval.specs.Meets.{Meets, stop_of, unit};
 
 use py_value::{ErrorKind, Memory, OpFault};
@@ -76,7 +76,7 @@ pub fn stop_at(fault: OpFault, line: u32) -> Stop
 }
 
 /// Charges an amount to a line, where so much is left.
-#[tactic(auto, unfolding(notebook_meaning::specs::Spending::pay))]
+#[tactic(auto, unfolding(run_meaning::specs::Spending::pay))]
 pub fn charge(left: &mut u64, amount: u64, line: u32) -> Result<(), Stop>
     ensures meets { Meets unit result left.new (pay amount line left.old []) }
     ensures used { left.new ≤ left.old }

@@ -1,6 +1,6 @@
 // The run of a block.
 ghost use Rattle.std.specs.Prelude.{◌≡◌, ◌+◌, IfOk, IsTrue, not};
-ghost use Rattle.notebook_meaning.specs.Spending.{runs};
+ghost use Rattle.run_meaning.specs.Spending.{runs};
 ghost use Rattle.py_eval.specs.Shows.{Shows, scene_of};
 ghost use Rattle.py_tree.specs.Levels.{are_levelled};
 ghost use Rattle.py_tree.specs.Names.{is_among};

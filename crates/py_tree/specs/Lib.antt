@@ -3,6 +3,7 @@ pub mod Levels
 pub mod Names
 pub mod Numbers
 pub mod Scope
+pub mod TextLines
 pub mod Trees
 pub mod View
 pub mod formers

@@ -4,7 +4,7 @@ use Rattle.std.specs.BTreeSet.{insert_key}
 use Rattle.std.proofs.lemmas.List.{take_more}
 use Rattle.py_tree.specs.Names.{Name}
 use Rattle.cell_graph.specs.Definers.{list_at, lists_with}
-use Rattle.notebook_meaning.specs.Graph.{numbers_from}
+use Rattle.graph_meaning.specs.Graph.{numbers_from}
 use Rattle.cell_graph.proofs.Numbers.{none_pass}
 use Rattle.cell_graph.proofs.LookUps.{with_none, with_one}
 use Rattle.cell_graph.proofs.ancestry.parents_of.Goals as goal

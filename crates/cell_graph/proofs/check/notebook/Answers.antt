@@ -5,8 +5,8 @@ use Rattle.std.proofs.lemmas.List.{length-map}
 use Rattle.py_tree.specs.Names.{Name}
 use Rattle.py_tree.specs.Trees.{Cell}
 use Rattle.py_tree.specs.View.{view_cell, view_cells}
-use Rattle.notebook_meaning.specs.Graph.{order}
-use Rattle.notebook_meaning.proofs.Orders.{full_is_free}
+use Rattle.graph_meaning.specs.Graph.{order}
+use Rattle.graph_meaning.proofs.Orders.{full_is_free}
 use Rattle.cell_graph.specs.Counts.{AreWithin, AreTurned}
 use Rattle.cell_graph.specs.Kept.{AreDefs, AreRefs}
 use Rattle.cell_graph.specs.Places.{ArePlaced}

@@ -2,7 +2,7 @@
 use Rattle.std.proofs.Common.{ℕ, ◌+◌, List, sym, ap, ◌∙◌, subst}
 use Rattle.std.specs.Prelude.{Vec}
 use Rattle.std.specs.declared.alloc.Global.{Global}
-use Rattle.notebook_meaning.specs.Graph.{AreCyclic}
+use Rattle.graph_meaning.specs.Graph.{AreCyclic}
 use Rattle.cell_graph.proofs.Ancestors.{AreFound, found_more, found_same, all_found}
 use Rattle.cell_graph.proofs.cycles.cyclic_cells.Goals as goal
 use Rattle.cell_graph.proofs.cycles.cyclic_cells.Goals.{then-branch+in_ok-push, else-branch}

@@ -3,7 +3,7 @@ use Rattle.std.proofs.Common.{◌≡◌, ℕ, ◌<◌, ◌&&◌, ◌||◌, not, 
 use Rattle.std.specs.List.{All}
 use Rattle.std.proofs.lemmas.Grind.{common_steps}
 use Rattle.std.proofs.lemmas.List.{get_or_default}
-use Rattle.notebook_meaning.specs.Graph.{is_in}
+use Rattle.graph_meaning.specs.Graph.{is_in}
 use Rattle.cell_graph.specs.Counts.{list_in}
 use Rattle.cell_graph.specs.Marks.{is_marked}
 use Rattle.cell_graph.proofs.Ancestors.{IsSearched, marked_below, was_marked, search_more, lies, lies_not}

@@ -1,7 +1,7 @@
 -- the cells so far are marked
 use Rattle.std.proofs.Common.{◌≡◌, ℕ, ◌+◌, ◌&&◌, ◌||◌, not, length, take}
 use Rattle.std.specs.List.{count_by}
-use Rattle.notebook_meaning.specs.Graph.{is_in}
+use Rattle.graph_meaning.specs.Graph.{is_in}
 use Rattle.cell_graph.specs.Marks.{is_marked}
 use Rattle.cell_graph.proofs.cycles.mark.Given as goal
 

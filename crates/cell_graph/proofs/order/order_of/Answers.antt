@@ -6,7 +6,7 @@ use Rattle.std.specs.declared.alloc.Global.{Global}
 use Rattle.std.specs.List.{All}
 use Rattle.std.proofs.lemmas.Bool.{false≢true}
 use Rattle.std.proofs.lemmas.List.{get_or_default}
-use Rattle.notebook_meaning.specs.Graph.{numbers_from, is_in}
+use Rattle.graph_meaning.specs.Graph.{numbers_from, is_in}
 use Rattle.cell_graph.specs.Counts.{list_in, count_of}
 use Rattle.cell_graph.proofs.Numbers.{numbers_alike}
 use Rattle.cell_graph.proofs.Sweeps.{IsSwept, is_free_of, same_sweep, at_first, first, child_held, child_inside, swept_more, place_more, place_none}

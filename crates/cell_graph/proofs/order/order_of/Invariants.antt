@@ -1,7 +1,7 @@
 -- the first places of the order, and what is left to list
 use Rattle.std.proofs.Common.{◌≡◌, List}
 use Rattle.py_tree.specs.Trees.{Cell}
-use Rattle.notebook_meaning.specs.Graph.{places}
+use Rattle.graph_meaning.specs.Graph.{places}
 use Rattle.cell_graph.specs.Kept.{AreParents}
 use Rattle.cell_graph.proofs.Sweeps.{IsSwept}
 use Rattle.cell_graph.proofs.order.order_of.Given as goal

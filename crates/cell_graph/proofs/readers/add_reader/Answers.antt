@@ -4,7 +4,7 @@ use Rattle.std.specs.Prelude.{unwrap_or}
 use Rattle.std.specs.Str.{bytes_eq}
 use Rattle.py_tree.specs.Names.{Name}
 use Rattle.py_value.specs.Maps.{Map, put, where_name}
-use Rattle.notebook_meaning.specs.Graph.{is_in}
+use Rattle.graph_meaning.specs.Graph.{is_in}
 use Rattle.cell_graph.specs.Readers.{cells_at}
 use Rattle.cell_graph.proofs.Readings.{one_more, name_more}
 use Rattle.cell_graph.proofs.readers.add_reader.Goals as goal

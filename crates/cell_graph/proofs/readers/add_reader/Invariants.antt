@@ -1,7 +1,7 @@
 -- the cell is added at the names so far
 use Rattle.std.proofs.Common.{◌≡◌, ℕ, ◌&&◌, ◌||◌, ◌==◌, take}
 use Rattle.py_tree.specs.Names.{Name, is_among}
-use Rattle.notebook_meaning.specs.Graph.{is_in}
+use Rattle.graph_meaning.specs.Graph.{is_in}
 use Rattle.cell_graph.specs.Readers.{cells_at}
 use Rattle.cell_graph.proofs.readers.add_reader.Given as goal
 

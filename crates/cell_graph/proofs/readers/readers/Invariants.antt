@@ -2,7 +2,7 @@
 use Rattle.std.proofs.Common.{◌≡◌, ℕ, ◌&&◌}
 use Rattle.std.specs.Prelude.{nat_lt}
 use Rattle.py_tree.specs.Names.{Name, is_among}
-use Rattle.notebook_meaning.specs.Graph.{is_in}
+use Rattle.graph_meaning.specs.Graph.{is_in}
 use Rattle.cell_graph.specs.Definers.{names_in}
 use Rattle.cell_graph.specs.Readers.{cells_at}
 use Rattle.cell_graph.proofs.readers.readers.Given as goal

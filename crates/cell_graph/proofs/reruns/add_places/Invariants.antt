@@ -1,6 +1,6 @@
 -- the places of the cells so far are added
 use Rattle.std.proofs.Common.{◌≡◌, ℕ, ◌||◌, Bool, filter, take}
-use Rattle.notebook_meaning.specs.Graph.{numbers_from}
+use Rattle.graph_meaning.specs.Graph.{numbers_from}
 use Rattle.cell_graph.specs.Places.{is_placed}
 use Rattle.cell_graph.proofs.reruns.add_places.Given as goal
 

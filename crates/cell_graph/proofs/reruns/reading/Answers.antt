@@ -5,7 +5,7 @@ use Rattle.std.specs.List.{list_any, All}
 use Rattle.std.proofs.lemmas.List.Folds.{list_any_more}
 use Rattle.py_tree.specs.Names.{Name}
 use Rattle.py_value.specs.Maps.{look_up}
-use Rattle.notebook_meaning.specs.Graph.{numbers_from}
+use Rattle.graph_meaning.specs.Graph.{numbers_from}
 use Rattle.cell_graph.specs.Places.{is_placed}
 use Rattle.cell_graph.specs.Readers.{cells_at}
 use Rattle.cell_graph.proofs.Names.{filter_alike}

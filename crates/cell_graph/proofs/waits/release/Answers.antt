@@ -2,7 +2,7 @@
 use Rattle.std.proofs.Common.{ℕ, ◌<◌, ◌≤◌, ◌&&◌, ◌||◌, ◌==◌, List, length, get_or, take, refl, ap, ◌∙◌, nat_cmp, BTreeSet, arith}
 use Rattle.std.specs.BTreeSet.{insert_key}
 use Rattle.std.proofs.lemmas.Bool.{eq-eqb, ne_eqb}
-use Rattle.notebook_meaning.specs.Graph.{numbers_from, is_in}
+use Rattle.graph_meaning.specs.Graph.{numbers_from, is_in}
 use Rattle.cell_graph.proofs.Tallies.{still_held, counted, freed, held_still}
 use Rattle.cell_graph.proofs.Names.{filter_alike}
 use Rattle.cell_graph.proofs.Numbers.{inserted}

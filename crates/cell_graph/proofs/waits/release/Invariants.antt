@@ -1,7 +1,7 @@
 -- the children so far are released
 use Rattle.std.proofs.Common.{◌≡◌, ℕ, ◌+◌, ◌&&◌, ◌||◌, ◌==◌, Bool, filter, take}
 use Rattle.std.specs.Prelude.{slice_index}
-use Rattle.notebook_meaning.specs.Graph.{numbers_from, is_in}
+use Rattle.graph_meaning.specs.Graph.{numbers_from, is_in}
 use Rattle.cell_graph.specs.Counts.{count_of}
 use Rattle.cell_graph.proofs.waits.release.Given as goal
 

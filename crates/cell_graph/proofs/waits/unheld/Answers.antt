@@ -3,7 +3,7 @@ use Rattle.std.proofs.Common.{ℕ, ◌&&◌, ◌==◌, List, get_or, sym, ap, �
 use Rattle.std.specs.Prelude.{nat_lt}
 use Rattle.std.specs.BTreeSet.{insert_key}
 use Rattle.std.proofs.lemmas.Bool.{eq-eqb, ne_eqb, and_left, lt-ltb, le-ltb}
-use Rattle.notebook_meaning.specs.Graph.{numbers_from}
+use Rattle.graph_meaning.specs.Graph.{numbers_from}
 use Rattle.cell_graph.proofs.Names.{filter_alike}
 use Rattle.cell_graph.proofs.Numbers.{inserted, none_pass, filter_within}
 use Rattle.cell_graph.proofs.Tallies.{unheld_here, unheld_later}

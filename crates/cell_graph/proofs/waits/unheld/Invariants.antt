@@ -1,7 +1,7 @@
 -- the cells so far that wait for none
 use Rattle.std.proofs.Common.{◌≡◌, ◌&&◌, ◌==◌, filter}
 use Rattle.std.specs.Prelude.{nat_lt, slice_index}
-use Rattle.notebook_meaning.specs.Graph.{numbers_from}
+use Rattle.graph_meaning.specs.Graph.{numbers_from}
 use Rattle.cell_graph.proofs.waits.unheld.Given as goal
 
 abbrev pub invariant-loop-cell : goal.invariant-loop-cell

@@ -1,7 +1,7 @@
 -- One part after the other.
 use Rattle.std.proofs.Common.{◌≡◌, ◌∙◌, ap, ◌∷◌, ◌++◌, []}
 use Rattle.std.specs.Prelude.{codes, decimal, map}
-use Rattle.notebook_meaning.specs.FrameText.{array, error_text, member, output_text, quoted, status_name}
+use Rattle.frame_meaning.specs.FrameText.{array, error_text, member, output_text, quoted, status_name}
 use Rattle.nb_json.proofs.Joined.{five_members, last_part, two_more}
 use Rattle.nb_json.proofs.frame_json.push_cell.Goals as goal
 

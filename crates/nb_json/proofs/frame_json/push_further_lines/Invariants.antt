@@ -1,7 +1,7 @@
 -- What is written and what is left make the whole.
 use Rattle.std.proofs.Common.{◌≡◌, ◌∷◌, ◌++◌, drop}
 use Rattle.std.specs.Prelude.{flat_map}
-use Rattle.notebook_meaning.specs.FrameText.{quoted}
+use Rattle.frame_meaning.specs.FrameText.{quoted}
 use Rattle.nb_json.proofs.frame_json.push_further_lines.Given as goal
 
 abbrev pub invariant-loop-line : goal.invariant-loop-line

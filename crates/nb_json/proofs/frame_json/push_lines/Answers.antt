@@ -3,7 +3,7 @@ use Rattle.std.proofs.Common.{◌≡◌, ◌∙◌, ap, sym, ◌∷◌, ◌++◌
 use Rattle.std.proofs.lemmas.Grind.{common_steps}
 use Rattle.std.specs.Prelude.{flat_map, map}
 use Rattle.std.specs.List.{join_with_byte}
-use Rattle.notebook_meaning.specs.FrameText.{quoted}
+use Rattle.frame_meaning.specs.FrameText.{quoted}
 use Rattle.nb_json.proofs.Joined.{joined, last_part, moved}
 use Rattle.nb_json.proofs.frame_json.push_lines.Goals as goal
 

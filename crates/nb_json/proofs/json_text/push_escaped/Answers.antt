@@ -1,7 +1,7 @@
 -- The run goes on, or is written with what stands for the next byte.
 use Rattle.std.proofs.Common.{◌≡◌, ◌∙◌, ap, sym, ◌++◌, ◌-◌, take, drop, get_or, arith}
 use Rattle.std.proofs.lemmas.Grind.{common_steps}
-use Rattle.notebook_meaning.specs.FrameText.{escaped_byte}
+use Rattle.frame_meaning.specs.FrameText.{escaped_byte}
 use Rattle.nb_json.proofs.Runs.{run_begins, run_longer, run_written}
 use Rattle.nb_json.proofs.json_text.push_escaped.Goals as goal
 use Rattle.nb_json.proofs.json_text.push_escaped.Goals.{then-needs_escape+in_ok-extend_from_slice+in_ok-push_escaped_byte, else-needs_escape}

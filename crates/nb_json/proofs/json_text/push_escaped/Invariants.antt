@@ -1,7 +1,7 @@
 -- What is written, with the run that isn't written yet, is the text so far.
 use Rattle.std.proofs.Common.{◌≡◌, ◌≤◌, ◌-◌, ◌++◌, drop, take}
 use Rattle.std.specs.Prelude.{flat_map}
-use Rattle.notebook_meaning.specs.FrameText.{escaped_byte}
+use Rattle.frame_meaning.specs.FrameText.{escaped_byte}
 use Rattle.nb_json.proofs.json_text.push_escaped.Given as goal
 
 abbrev pub invariant-loop-i : goal.invariant-loop-i

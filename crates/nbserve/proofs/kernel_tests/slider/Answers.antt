@@ -1,15 +1,8 @@
--- A file of the thin form has few cells.
-use Rattle.std.proofs.Common.{arith}
-use Rattle.std.proofs.lemmas.List.{length-map}
-use Rattle.py_tree.specs.View.{view_cell, view_cells}
-use Rattle.notebook_meaning.proofs.ThinCode.{thin_few}
-use Rattle.notebook_meaning.proofs.ThinRuns.{thin_runnable}
+-- A kernel can run each notebook of the form.
+use Rattle.std.proofs.lemmas.Result.{IfOk-weaker}
+use Rattle.py_tree.specs.View.{view_cells}
+use Rattle.thin_runs.proofs.ThinRuns.{thin_runnable}
 use Rattle.nbserve.proofs.kernel_tests.slider.Goals as goal
 
-pub notebook-requires : goal.notebook-requires
-notebook-requires c =
-    let cells = c.in_ok-thin.field-0.items in
-    omega (arith, thin_few (view_cells cells) c.in_ok-thin.ensures.cells.thin, length-map cells view_cell)
-
-pub returns-clause : goal.returns-clause
-returns-clause c = thin_runnable _ c.in_ok-thin.ensures.cells.thin
+pub returns : goal.returns
+returns c = IfOk-weaker c.load.result _ _ (λ nb accepted. thin_runnable (view_cells nb) accepted.form.thin) c.load.ensures.loaded

@@ -1,11 +1,11 @@
 -- The bytes have the form of the notebook's cells.
 use Rattle.std.proofs.Common.{subst, sym, arith}
 use Rattle.std.proofs.lemmas.List.{length-map}
-use Rattle.notebook_meaning.specs.Program.{IsAccepted}
+use Rattle.program_meaning.specs.Program.{IsAccepted}
 use Rattle.py_tree.specs.View.{view_cell, view_cells}
-use Rattle.notebook_meaning.proofs.ThinCode.{thin_few}
+use Rattle.thin_runs.proofs.ThinCode.{thin_few}
 use Rattle.nbserve.specs.Stops.{IsWhy, of_form}
-use Rattle.nbserve.proofs.Outcomes.{if_err_of}
+use Rattle.kernel.proofs.Outcomes.{if_err_of}
 use Rattle.nbserve.proofs.Refusing.{refused_by_form}
 use Rattle.nbserve.proofs.loading.load.Goals as goal
 

@@ -1,7 +1,7 @@
 -- The line is that of the name and its cells.
 use Rattle.std.proofs.Common.{◌≡◌, IfOk, List, ℕ, string_bytes, codes, decimal, ◌++◌, refl, subst}
 use Rattle.std.proofs.lemmas.List.{append_assoc}
-use Rattle.notebook_meaning.specs.Program.{Doubly, refusal_text}
+use Rattle.program_meaning.specs.Program.{Doubly, refusal_text}
 use Rattle.nbserve.proofs.refusal.doubly_text.Goals as goal
 
 pub returns : goal.returns

@@ -3,14 +3,14 @@ use Rattle.std.proofs.Common.{◌∙◌, refl, sym, ap, subst, ℕ, List, [], �
 use Rattle.std.specs.Prelude.{Some, string_bytes}
 use Rattle.std.proofs.lemmas.Result.{IfErr-weaker, IfOk-weaker}
 use Rattle.link_io.specs.Outside.{Rose}
-use Rattle.notebook_meaning.specs.Answer.{Open}
-use Rattle.notebook_meaning.specs.Program.{notebook_of, IsLoaded}
-use Rattle.notebook_meaning.specs.Runnable.{Runnable}
-use Rattle.notebook_meaning.proofs.ThinRuns.{thin_runnable}
+use Rattle.visit_meaning.specs.Answer.{Open}
+use Rattle.program_meaning.specs.Program.{notebook_of, IsLoaded}
+use Rattle.visit_meaning.specs.Runnable.{Runnable}
+use Rattle.thin_runs.proofs.ThinRuns.{thin_runnable}
 use Rattle.py_tree.specs.Trees.{Cell}
 use Rattle.py_tree.specs.View.{view_cells}
 use Rattle.nbserve.proofs.Carrying.{same_played, unloaded_stops, unplayed_stops}
-use Rattle.nbserve.proofs.Outcomes.{if_err_of}
+use Rattle.kernel.proofs.Outcomes.{if_err_of}
 use Rattle.nbserve.specs.Asked.{asked}
 use Rattle.nbserve.specs.Carried as carried
 use Rattle.nbserve.specs.Carried.{Carried, IsPlayed}

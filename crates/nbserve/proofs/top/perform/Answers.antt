@@ -1,12 +1,12 @@
 -- The last text stands behind the frames.
 use Rattle.std.proofs.Common.{refl, arith}
 use Rattle.link_io.proofs.Taken.{part_before}
-use Rattle.notebook_meaning.specs.Answer.{Before, parts_from, solo}
-use Rattle.notebook_meaning.specs.FrameText.{labelled}
-use Rattle.notebook_meaning.specs.Program.{usual_budget}
+use Rattle.visit_meaning.specs.Answer.{Before, parts_from, solo}
+use Rattle.frame_meaning.specs.FrameText.{labelled}
+use Rattle.program_meaning.specs.Program.{usual_budget}
 use Rattle.py_tree.specs.View.{view_cells}
 use Rattle.nbserve.proofs.Carrying.{cut_in_last, ended_after}
-use Rattle.nbserve.specs.Cut as cut
+use Rattle.script_run.specs.Cut as cut
 use Rattle.nbserve.specs.Wrote as wrote
 use Rattle.nbserve.proofs.top.perform.Goals as goal
 

@@ -1,8 +1,8 @@
 -- What was played are the messages of the script that was read.
 use Rattle.std.proofs.Common.{List, ℕ, Bor, map, subst, sym}
-use Rattle.notebook_meaning.specs.Messages.{AreMessages}
-use Rattle.notebook_meaning.specs.Program.{AreRead}
-use Rattle.notebook_meaning.specs.Scripts.{messages_of}
+use Rattle.visit_meaning.specs.Messages.{AreMessages}
+use Rattle.program_meaning.specs.Program.{AreRead}
+use Rattle.program_meaning.specs.Scripts.{messages_of}
 use Rattle.nbserve.proofs.top.perform_script.Goals as goal
 
 pub returns-clause-played : goal.returns-clause-played

@@ -3,9 +3,9 @@ use Rattle.std.proofs.Common.{◌≡◌, [], map, subst, sym}
 use Rattle.std.specs.Prelude.{string_bytes}
 use Rattle.link_io.specs.Outside.{Rose, Took}
 use Rattle.link_io.proofs.Taken.{took_none}
-use Rattle.notebook_meaning.specs.Answer.{Before, parts_from}
-use Rattle.notebook_meaning.specs.Program.{usual_budget}
-use Rattle.nbserve.specs.Cut.{IsCutOff}
+use Rattle.visit_meaning.specs.Answer.{Before, parts_from}
+use Rattle.program_meaning.specs.Program.{usual_budget}
+use Rattle.script_run.specs.Cut.{IsCutOff}
 use Rattle.nbserve.specs.Works.{label_of, last_of}
 use Rattle.nbserve.specs.Wrote.{Wrote}
 use Rattle.nbserve.specs.declared.stop.Stop.TheVariants as stop

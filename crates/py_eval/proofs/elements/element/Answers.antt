@@ -1,6 +1,6 @@
 -- Each way through a call that makes an element.
 use Rattle.std.proofs.Common.{◌≡◌, ◌∙◌, ap}
-use Rattle.notebook_meaning.specs.Meaning.{made_at}
+use Rattle.run_meaning.specs.Meaning.{made_at}
 use Rattle.py_eval.specs.Shows.{scene_of}
 use Rattle.py_value.specs.Size.{charge_of}
 use Rattle.py_eval.proofs.Sequence.{exit, onward, paid, unpaid}

@@ -1,7 +1,7 @@
 -- What is left of the expressions goes on as all of them would.
 use Rattle.std.proofs.Common.{◌≡◌, ◌≤◌, [], drop, IsTrue}
-use Rattle.notebook_meaning.specs.Meaning.{values_after}
-use Rattle.notebook_meaning.specs.Spending.{spend}
+use Rattle.run_meaning.specs.Meaning.{values_after}
+use Rattle.run_meaning.specs.Spending.{spend}
 use Rattle.py_eval.specs.Shows.{scene_of}
 use Rattle.py_tree.specs.Levels.{are_levelled_trees}
 use Rattle.py_tree.specs.View.{views}

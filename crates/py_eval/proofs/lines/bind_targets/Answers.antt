@@ -1,6 +1,6 @@
 -- A name that is no target keeps its binding.
 use Rattle.std.proofs.Common.{arith, ◌≡◌, ◌∙◌, ap, not}
-use Rattle.notebook_meaning.specs.declared.binding.Binding.TheVariants.{Plain}
+use Rattle.run_meaning.specs.declared.binding.Binding.TheVariants.{Plain}
 use Rattle.py_tree.specs.Names.{is_among}
 use Rattle.py_value.specs.Maps.{where_name}
 use Rattle.py_eval.proofs.Kept.{kept_put, first_among}

@@ -1,6 +1,6 @@
 -- Each way through a line.
 use Rattle.std.proofs.Common.{◌≡◌, ◌∙◌, ap, refl, Bool, not, codes, [], ◌∷◌}
-use Rattle.notebook_meaning.specs.declared.binding.Binding.TheVariants.{Module}
+use Rattle.run_meaning.specs.declared.binding.Binding.TheVariants.{Module}
 use Rattle.py_tree.specs.Names.{Name, is_among}
 use Rattle.py_value.specs.Maps.{put, where_name}
 use Rattle.py_eval.proofs.Kept.{kept_put}

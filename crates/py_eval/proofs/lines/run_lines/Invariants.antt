@@ -1,7 +1,7 @@
 -- What is left of the lines goes on as all of them would.
 use Rattle.std.proofs.Common.{◌≡◌, ℕ, ◌≤◌, [], List, drop, not, true, IsTrue}
-use Rattle.notebook_meaning.specs.Meaning.{lines_of, block_of}
-use Rattle.notebook_meaning.specs.Spending.{spend}
+use Rattle.run_meaning.specs.Meaning.{lines_of, block_of}
+use Rattle.run_meaning.specs.Spending.{spend}
 use Rattle.py_eval.specs.Shows.{scene_of}
 use Rattle.py_tree.specs.Levels.{are_levelled}
 use Rattle.py_tree.specs.Names.{is_among}

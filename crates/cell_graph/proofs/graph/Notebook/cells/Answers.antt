@@ -1,6 +1,6 @@
 -- The type keeps that no cell lies on a cycle.
 use Rattle.std.proofs.Common.{subst, List}
-use Rattle.notebook_meaning.specs.Graph.{NoneCyclic}
+use Rattle.graph_meaning.specs.Graph.{NoneCyclic}
 use Rattle.py_tree.specs.View.{view_cells}
 use Rattle.py_tree.specs.declared.tree.CellCode.{CellCode}
 use Rattle.cell_graph.proofs.graph.Notebook.cells.Goals as goal

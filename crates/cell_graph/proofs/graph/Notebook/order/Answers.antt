@@ -1,8 +1,8 @@
 -- No cell lies on a cycle, so the order lists every cell.
 use Rattle.std.proofs.Common.{◌≡◌, ℕ, List, true, sym, ap, ◌∙◌, subst, arith}
 use Rattle.std.proofs.lemmas.List.{length-map}
-use Rattle.notebook_meaning.specs.Graph.{is_in, order, NoneCyclic}
-use Rattle.notebook_meaning.proofs.Orders.{free_is_listed}
+use Rattle.graph_meaning.specs.Graph.{is_in, order, NoneCyclic}
+use Rattle.graph_meaning.proofs.Orders.{free_is_listed}
 use Rattle.py_tree.specs.Trees.{Cell}
 use Rattle.py_tree.specs.View.{view_cell, view_cells}
 use Rattle.py_tree.specs.declared.tree.CellCode.{CellCode}

@@ -7,8 +7,8 @@ use Rattle.py_tree.specs.Names.{Name}
 use Rattle.py_tree.specs.Trees.{Cell}
 use Rattle.py_tree.specs.View.{view_cells}
 use Rattle.py_tree.specs.declared.tree.CellCode.{CellCode}
-use Rattle.notebook_meaning.specs.Graph.{is_in, numbers_from}
-use Rattle.notebook_meaning.specs.Reruns.{reads_one, is_within, rerun}
+use Rattle.graph_meaning.specs.Graph.{is_in, numbers_from}
+use Rattle.graph_meaning.specs.Reruns.{reads_one, is_within, rerun}
 use Rattle.cell_graph.specs.Counts.{list_in}
 use Rattle.cell_graph.specs.Places.{is_placed}
 use Rattle.cell_graph.specs.Readers.{cells_at}

@@ -1,6 +1,6 @@
 -- the cells so far that run again, and the places of those that wait
 use Rattle.std.proofs.Common.{◌-◌, length}
-use Rattle.notebook_meaning.specs.Reruns.{reads_one, is_within}
+use Rattle.graph_meaning.specs.Reruns.{reads_one, is_within}
 use Rattle.py_tree.specs.View.{view_cells}
 use Rattle.cell_graph.proofs.Spreads.{IsSpread}
 use Rattle.cell_graph.proofs.graph.Notebook.rerun.Given as goal

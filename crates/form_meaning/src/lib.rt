@@ -1,0 +1,4 @@
+//! The thin form of a notebook file, and where other bytes fail.
+#![tactic(auto)]
+
+pub mod laws;

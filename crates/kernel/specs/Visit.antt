@@ -1,0 +1,95 @@
+-- Visits as contracts see them, and what a delivery and a step do.
+use Rattle.std.specs.Prelude.{◌≡◌, ℕ, ◌+◌, ◌<◌, Bool, true, false, List, [], ◌∷◌, find, length, replicate, set, slice_index_or, Option, Some, None, ◌==◌}
+use Rattle.visit_meaning.specs.Answer.{State, Before, On, Message, Part, answer, refused}
+use Rattle.run_meaning.specs.Meaning.{Env}
+use Rattle.visit_meaning.specs.Messages.{IsMessage}
+use Rattle.visit_meaning.specs.Whole.{whole}
+use Rattle.frames.specs.declared.frame.CellFrame.{CellFrame}
+use Rattle.frames.specs.declared.frame.Frame.{Frame}
+use Rattle.frames.specs.declared.frame.Frame.TheVariants as frame
+use Rattle.py_tree.specs.View.{view_cells}
+use Rattle.py_tree.specs.declared.tree.CellCode.{CellCode}
+use Rattle.py_value.specs.Maps.{Map}
+use Rattle.py_value.specs.declared.types.Value.{Value}
+use Rattle.kernel.specs.declared.answers.Delivered.{Delivered}
+use Rattle.kernel.specs.declared.answers.Delivered.TheVariants as delivered
+use Rattle.kernel.specs.declared.answers.Stepped.{Stepped}
+use Rattle.kernel.specs.declared.answers.Stepped.TheVariants as stepped
+
+-- One visitor of a notebook, each of whose cells has the budget: the state of the visitor, the parts of the answer that are still to
+-- come, what names are bound to, the newest frame of each cell, and whether memory was wanting.
+pub record Visit : Type 0 where
+  pub nb : List CellCode
+  pub budget : ℕ
+  pub state : State
+  pub coming : List Part
+  pub env : Env
+  pub newest : List (Option CellFrame)
+  pub spoiled : Bool
+
+-- the newest frame of a cell
+abbrev pub newest_in : List (Option CellFrame) → ℕ → Option CellFrame
+newest_in newest c = slice_index_or newest c None
+
+-- a visit at its beginning
+abbrev pub begun : List CellCode → ℕ → Visit
+begun nb budget = record { nb = nb; budget = budget; state = Before; coming = []; env = []; newest = replicate (length nb) None; spoiled = false }
+
+-- the present values of a state
+abbrev pub present_in : State → Map Value
+present_in Before = []
+present_in (On ui) = ui
+
+-- The bindings and the newest frames are those of the whole notebook when it runs from nothing with these present values.
+pub record IsWhole (v : Visit) (ui : Map Value) : Type 0 where
+  pub env : v.env ≡ (whole (view_cells v.nb) v.budget ui).env
+  pub newest : (c : ℕ) → c < length v.nb → newest_in v.newest c ≡ find (λ (f : CellFrame). f.cell == c) (whole (view_cells v.nb) v.budget ui).frames
+
+-- What stands where memory wasn't wanting and no frame is to come: no cell has a frame before the opening, and from then on all are as
+-- when the whole notebook runs from nothing.
+pub record Stands (v : Visit) : Type 0 where
+  pub before : v.state ≡ Before → (c : ℕ) → newest_in v.newest c ≡ None
+  pub on : (ui : Map Value) → v.state ≡ On ui → v.coming ≡ [] → IsWhole v ui
+
+-- A message is taken: the state and what is to come are those of its answer. No newest frame changes, and where the message is refused
+-- no binding does.
+pub record Takes (m : Message) (before after : Visit) : Type 0 where
+  pub state : after.state ≡ (answer (view_cells before.nb) before.budget before.state m).state
+  pub coming : after.coming ≡ (answer (view_cells before.nb) before.budget before.state m).parts
+  pub newest : after.newest ≡ before.newest
+  pub kept : (why : Frame) → answer (view_cells before.nb) before.budget before.state m ≡ refused before.state why → after.env ≡ before.env
+  pub nb : after.nb ≡ before.nb
+  pub budget : after.budget ≡ before.budget
+  pub spoiled : after.spoiled ≡ false
+
+-- What a delivery does. While frames are to come it tells their number and changes nothing; else the message is taken.
+abbrev pub IsDelivery : List ℕ → Visit → Visit → Delivered → Type 0
+IsDelivery bytes before after (delivered.Busy pending) = (0 < length before.coming) × (pending ≡ length before.coming) × (after ≡ before)
+IsDelivery bytes before after delivered.Taken = (before.coming ≡ []) × ((m : Message) × IsMessage bytes m × Takes m before after)
+
+-- the newest frames after one that is given
+abbrev pub with_frame : Frame → List (Option CellFrame) → List (Option CellFrame)
+with_frame (frame.Cell f) newest = set newest f.cell (Some f)
+with_frame f newest = newest
+
+abbrev pub is_result : Frame → Bool
+is_result (frame.Cell f) = true
+is_result f = false
+
+-- A frame is given: it is the first of those that were to come, and the steps that it costs are counted. It is the newest one of its
+-- cell; other newest frames stay, and so do the state and, unless a cell ran, the bindings.
+pub record Gives (f : Frame) (before after : Visit) (count count_after : ℕ) : Type 0 where
+  pub cost : ℕ
+  pub coming : before.coming ≡ record { frame = f; cost = cost } ∷ after.coming
+  pub steps : count_after ≡ count + cost
+  pub newest : after.newest ≡ with_frame f before.newest
+  pub state : after.state ≡ before.state
+  pub env : is_result f ≡ false → after.env ≡ before.env
+  pub nb : after.nb ≡ before.nb
+  pub budget : after.budget ≡ before.budget
+  pub spoiled : after.spoiled ≡ false
+
+-- What a step does: it gives the next frame, and changes nothing where none is to come.
+abbrev pub IsStep : Visit → Visit → ℕ → ℕ → Stepped → Type 0
+IsStep before after count count_after stepped.Idle = (before.coming ≡ []) × (after ≡ before) × (count_after ≡ count)
+IsStep before after count count_after (stepped.Frame f) = Gives f before after count count_after

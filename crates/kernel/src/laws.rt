@@ -1,0 +1,24 @@
+// What holds of every visit.
+ghost use Rattle.std.specs.Prelude.{◌≡◌, ℕ, List, [], ◌∷◌, sum};
+ghost use Rattle.visit_meaning.specs.Answer.{Open, work};
+ghost use Rattle.visit_meaning.specs.Whole.{whole};
+ghost use Rattle.kernel.specs.Visit.{Visit, begun};
+ghost use Rattle.kernel.specs.Visits.{Call, Leads, IsSolo, taken_by, given_by};
+ghost use Rattle.py_tree.specs.Trees.{Cell};
+ghost use Rattle.py_tree.specs.declared.tree.CellCode.{CellCode};
+
+/// Whatever calls of `deliver` and `step` follow one another from the beginning of a visit, the frames that were given and those that are
+/// still to come are exactly the frames of a visitor alone who sends the messages that were taken; and the steps are exactly those of the cells
+/// that run for them.
+pub fn every_visit()
+    ensures solo { (nb : List CellCode) (budget : ℕ) (calls : List Call) (after : Visit)
+        (count count_after : ℕ)
+        → Leads calls (begun nb budget) after count count_after
+        → IsSolo nb budget (taken_by calls) (given_by calls) after count count_after }
+{}
+
+/// The messages of a visitor who only opens a notebook cost what the whole notebook costs.
+pub fn opening_costs()
+    ensures whole { (nb : List Cell) (budget : ℕ)
+        → work nb budget (Open ∷ []) ≡ sum (whole nb budget []).costs }
+{}

@@ -1,7 +1,0 @@
--- With no `\n` all bytes are the first line.
-use Rattle.std.proofs.Common.{inr, refl}
-use Rattle.nbserve.proofs.ScriptLines.{unbroken}
-use Rattle.nbserve.proofs.script.first_line.Goals as goal
-
-pub returns-in-None : goal.returns-in-None
-returns-in-None c = record { unbroken = unbroken c.args.bytes.now c.in-None.ensures; text = inr (refl, refl, c.requires) }

@@ -1,0 +1,4 @@
+//! Scripts, and what the program writes.
+#![tactic(auto)]
+
+pub mod laws;

@@ -1,0 +1,3 @@
+pub mod Giving
+pub mod Playing
+pub mod ScriptLines

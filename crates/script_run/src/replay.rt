@@ -1,0 +1,153 @@
+// Visits that are played.
+ghost use Rattle.std.specs.Prelude.{◌≡◌, ◌+◌, ◌≤◌, ◌++◌, ◌∷◌, [], List, IfErr, OnErr, OnOk, map};
+ghost use Rattle.link_io.specs.Outside.{Rose, Took, TookPart};
+ghost use Rattle.script_run.specs.Cut.{IsCut};
+ghost use Rattle.visit_meaning.specs.Answer.{Before, Message, cost_of_parts, frames_in, parts_from, solo, work};
+ghost use Rattle.frame_meaning.specs.FrameText.{frame_text, labelled};
+ghost use Rattle.visit_meaning.specs.Messages.{AreMessages};
+ghost use Rattle.visit_meaning.specs.Runnable.{Runnable};
+ghost use Rattle.py_tree.specs.View.{view_cells};
+
+use crate::frame_line::set_line;
+use cell_graph::Notebook;
+use kernel::{Kernel, Stepped, open};
+use link_io::{Failed, Sink, write_all};
+use frames::Frame;
+use py_eval::Steps;
+use py_value::Memory;
+use std::alloc::Global;
+use std::sync::ledger::Ledger;
+
+/// Why a visit isn't written to its end.
+#[derive(Clone, Copy, Debug, PartialEq, Eq)]
+pub enum PlayFault {
+    /// The sink failed.
+    WriteFault,
+    /// Memory was wanting.
+    Memory,
+}
+
+impl From<Memory> for PlayFault {
+    ghost use Rattle.std.specs.Prelude.{◌≡◌};
+    ghost use Rattle.script_run.specs.declared.replay.PlayFault.TheVariants as fault;
+
+    ghost from_gives = { λ why f. f ≡ fault.Memory };
+
+    fn from(_: Memory) -> PlayFault {
+        PlayFault::Memory
+    }
+}
+
+impl From<Failed> for PlayFault {
+    ghost use Rattle.std.specs.Prelude.{◌≡◌};
+    ghost use Rattle.script_run.specs.declared.replay.PlayFault.TheVariants as fault;
+
+    ghost from_gives = { λ why f. f ≡ fault.WriteFault };
+
+    fn from(_: Failed) -> PlayFault {
+        PlayFault::WriteFault
+    }
+}
+
+// Writes a frame on a line of its own, behind a label. The line is made in `line`.
+fn write_frame<O: Sink>(
+    alloc: Global,
+    label: &[u8],
+    frame: Frame,
+    line: &mut Vec<u8>,
+    out: &mut O,
+) -> Result<(), PlayFault>
+    ensures written { OnOk result
+        (Took (O.taken out.old) (O.taken out.new) (label.now ++ frame_text frame ++ 10 ∷ [])) }
+    ensures begun { OnErr result
+        (TookPart (O.taken out.old) (O.taken out.new) (label.now ++ frame_text frame ++ 10 ∷ [])) }
+    ensures later { O.faults out.old ≤ O.faults out.new }
+    ensures failed { IfErr result
+        (λ fault. fault ≡ PlayFault.WriteFault → Rose (O.faults out.old) (O.faults out.new)) }
+{
+    set_line(alloc, line, label, &frame)?;
+    write_all(out, line.as_slice())?;
+    Ok(())
+}
+
+// Writes the frames that are to come, each when its step gives it.
+fn drain<'n, O: Sink, L: Ledger>(
+    alloc: Global,
+    kernel: &mut Kernel<'n>,
+    label: &[u8],
+    line: &mut Vec<u8>,
+    out: &mut O,
+    steps: &mut Steps<L>,
+) -> Result<(), PlayFault>
+    ensures written { OnOk result
+        (Took (O.taken out.old) (O.taken out.new)
+        (labelled label.now (frames_in kernel.old.coming))) }
+    ensures begun { OnErr result
+        (TookPart (O.taken out.old) (O.taken out.new)
+        (labelled label.now (frames_in kernel.old.coming))) }
+    ensures later { O.faults out.old ≤ O.faults out.new }
+    ensures cut { IfErr result (λ fault. fault ≡ PlayFault.WriteFault
+        → IsCut label.now kernel.old.coming (O.taken out.old)
+        (O.taken out.new) steps.old steps.new) }
+    ensures failed { IfErr result
+        (λ fault. fault ≡ PlayFault.WriteFault → Rose (O.faults out.old) (O.faults out.new)) }
+    ensures steps { OnOk result (steps.new ≡ steps.old + cost_of_parts kernel.old.coming) }
+    ensures over { OnOk result (kernel.new.coming ≡ []) }
+    ensures state { OnOk result (kernel.new.state ≡ kernel.old.state) }
+    ensures nb { OnOk result (kernel.new.nb ≡ kernel.old.nb) }
+    ensures budget { OnOk result (kernel.new.budget ≡ kernel.old.budget) }
+{
+    while let Stepped::Frame(frame) = kernel.step(alloc, steps)? {
+        write_frame(alloc, label, frame, line, out)?;
+    }
+    Ok(())
+}
+
+/// Plays the messages of one visitor from the beginning of a visit. Each frame is written when its step gives it, on a line of its own
+/// behind `label`; all frames of an answer are written before the next message is taken. Each run of a cell has this budget of steps; the
+/// steps of all runs are counted.
+pub fn play<O: Sink, L: Ledger>(
+    alloc: Global,
+    notebook: &Notebook,
+    budget: u64,
+    label: &[u8],
+    messages: &[&[u8]],
+    out: &mut O,
+    steps: &mut Steps<L>,
+) -> Result<(), PlayFault>
+    requires { Runnable (view_cells notebook.now) }
+
+    // These are the frames of a visitor alone who sends these messages.
+    ensures written { OnOk result
+        ((ms : List Message) → AreMessages (map (λ m. m.now) messages.now) ms
+        → Took (O.taken out.old) (O.taken out.new)
+        (labelled label.now (solo (view_cells notebook.now) budget ms))) }
+    ensures steps { OnOk result
+        ((ms : List Message) → AreMessages (map (λ m. m.now) messages.now) ms
+        → steps.new ≡ steps.old + work (view_cells notebook.now) budget ms) }
+
+    // Where a fault comes in the middle, a beginning of their text was written.
+    ensures begun { OnErr result
+        ((ms : List Message) → AreMessages (map (λ m. m.now) messages.now) ms
+        → TookPart (O.taken out.old) (O.taken out.new)
+        (labelled label.now (solo (view_cells notebook.now) budget ms))) }
+
+    // Where a write fails, it is that of the last frame that a step gave: the lines of the frames before it were written, and no later
+    // steps are counted.
+    ensures cut { IfErr result
+        (λ fault. fault ≡ PlayFault.WriteFault → (ms : List Message)
+        → AreMessages (map (λ m. m.now) messages.now) ms
+        → IsCut label.now (parts_from (view_cells notebook.now) budget Before ms) (O.taken out.old)
+        (O.taken out.new) steps.old steps.new) }
+    ensures later { O.faults out.old ≤ O.faults out.new }
+    ensures failed { IfErr result
+        (λ fault. fault ≡ PlayFault.WriteFault → Rose (O.faults out.old) (O.faults out.new)) }
+{
+    let mut kernel = open(alloc, notebook, budget)?;
+    let mut line = Vec::new(alloc);
+    for message in messages {
+        let _taken = kernel.deliver(alloc, message)?;
+        drain(alloc, &mut kernel, label, &mut line, out, steps)?;
+    }
+    Ok(())
+}

@@ -1,0 +1,128 @@
+-- What the tests of terms and sliders tell of a tree.
+use Rattle.std.proofs.Common.{◌≡◌, ℕ, true, nat_le, List, refl, sym, ap, ◌∙◌}
+use Rattle.std.specs.Prelude.{codes}
+use Rattle.std.specs.Str.{bytes_eq}
+use Rattle.std.proofs.lemmas.Bool.{and_parts, and_from}
+use Rattle.std.proofs.lemmas.Slice.Eq.{bytes_eq-Decides}
+use Rattle.thin_form.specs.Sliders.{Bounds, maker, slider, are_bounds}
+use Rattle.thin_form.specs.Sums.{numeral, value_of}
+use Rattle.form_meaning.specs.Thin as thin
+use Rattle.py_tree.specs.Elements.{is_mo, is_mo_ui}
+use Rattle.form_meaning.specs.Thin.{Elements, is_term, is_maker, is_number_tree, makes_slider}
+use Rattle.py_tree.specs.Levels.{is_literal}
+use Rattle.py_tree.specs.Names.{Name, is_name}
+use Rattle.py_tree.specs.Numbers.{is_number, number_of}
+use Rattle.py_tree.specs.Trees.{Tree, literal, name, sum, attribute, call, Trees, none, more}
+use Rattle.py_tree.specs.declared.token.TokenKind.{TokenKind}
+use Rattle.py_tree.specs.declared.token.TokenKind.TheVariants as kind
+
+same_bytes : (a b : List ℕ) → bytes_eq a b ≡ true → a ≡ b
+same_bytes a b = (bytes_eq-Decides a b).0
+
+-- an attribute that is a term is the value of a slider
+pub record IsValue (es : Elements) (t : Tree) : Type 0 where
+  pub slider : Name
+  pub is : t ≡ value_of slider
+  pub named : is_name slider ≡ true
+  pub known : es.is_slider slider ≡ true
+
+pub value_form : (es : Elements) (base : Tree) (x : Name) → is_term es (attribute base x) ≡ true → IsValue es (attribute base x)
+value_form es (literal token) x h = absurd (cc)
+value_form es (name y) x h =
+    let s = and_parts _ _ h in
+    let known = and_parts (is_name y) _ s.0 in
+    record { slider = y; is = ap (attribute (name y)) (same_bytes x (codes "value") s.1); named = known.0; known = known.1 }
+value_form es (sum a b) x h = absurd (cc)
+value_form es (attribute base y) x h = absurd (cc)
+value_form es (call f args) x h = absurd (cc)
+
+literal_form : (k : TokenKind) (w : List ℕ) → is_literal k w ≡ true → (literal (record { kind = k; spelling = w }) ≡ numeral w) × (is_number w ≡ true)
+literal_form kind.Name w h = absurd (cc)
+literal_form kind.Number w h = (refl, h)
+literal_form kind.Mark w h = absurd (cc)
+
+-- a number
+record IsNumeral (t : Tree) : Type 0 where
+  spelling : List ℕ
+  is : t ≡ numeral spelling
+  number : is_number spelling ≡ true
+
+number_form : (t : Tree) → is_number_tree t ≡ true → IsNumeral t
+number_form (literal token) h =
+    let s = literal_form token.kind token.spelling h in
+    record { spelling = token.spelling; is = s.0; number = s.1 }
+number_form (name x) h = absurd (cc)
+number_form (sum a b) h = absurd (cc)
+number_form (attribute base x) h = absurd (cc)
+number_form (call f args) h = absurd (cc)
+
+-- two numbers in order
+record AreBounds (ts : Trees) : Type 0 where
+  bounds : Bounds
+  is : ts ≡ more (numeral bounds.low) (more (numeral bounds.high) none)
+  ordered : are_bounds bounds.low bounds.high ≡ true
+
+bounds_form : (ts : Trees) → thin.are_bounds ts ≡ true → AreBounds ts
+unfolding are_bounds
+bounds_form none h = absurd (cc)
+bounds_form (more a none) h = absurd (cc)
+bounds_form (more a (more b none)) h =
+    let s = and_parts _ _ h in
+    let both = and_parts _ _ s.0 in
+    let low = number_form a both.0 in
+    let high = number_form b both.1 in
+    let order = ap (λ t. nat_le (thin.number_in t) (thin.number_in b)) low.is in
+    let end = ap (λ t. nat_le (number_of low.spelling) (thin.number_in t)) high.is in
+    record {
+      bounds = record { low = low.spelling; high = high.spelling };
+      is = ap (λ t. more t (more b none)) low.is ∙ ap (λ t. more (numeral low.spelling) (more t none)) high.is;
+      ordered = and_from _ _ (and_from _ _ low.number high.number) (sym (order ∙ end) ∙ s.1);
+    }
+bounds_form (more a (more b (more c rest))) h = absurd (cc)
+
+mo_form : (t : Tree) → is_mo t ≡ true → t ≡ name (codes "mo")
+mo_form (literal token) h = absurd (cc)
+mo_form (name y) h = ap name (same_bytes y (codes "mo") h)
+mo_form (sum a b) h = absurd (cc)
+mo_form (attribute base y) h = absurd (cc)
+mo_form (call f args) h = absurd (cc)
+
+mo_ui_form : (t : Tree) → is_mo_ui t ≡ true → t ≡ attribute (name (codes "mo")) (codes "ui")
+mo_ui_form (literal token) h = absurd (cc)
+mo_ui_form (name y) h = absurd (cc)
+mo_ui_form (sum a b) h = absurd (cc)
+mo_ui_form (attribute base y) h =
+    let s = and_parts _ _ h in
+    ap (λ t. attribute t y) (mo_form base s.0) ∙ ap (attribute (name (codes "mo"))) (same_bytes y (codes "ui") s.1)
+mo_ui_form (call f args) h = absurd (cc)
+
+maker_form : (t : Tree) → is_maker t ≡ true → t ≡ maker
+maker_form (literal token) h = absurd (cc)
+maker_form (name y) h = absurd (cc)
+maker_form (sum a b) h = absurd (cc)
+maker_form (attribute base y) h =
+    let s = and_parts _ _ h in
+    ap (λ t. attribute t y) (mo_ui_form base s.0)
+    ∙ ap (attribute (attribute (name (codes "mo")) (codes "ui"))) (same_bytes y (codes "slider") s.1)
+maker_form (call f args) h = absurd (cc)
+
+-- a slider with its bounds
+pub record IsSlider (t : Tree) : Type 0 where
+  pub bounds : Bounds
+  pub is : t ≡ slider bounds
+  pub ordered : are_bounds bounds.low bounds.high ≡ true
+
+pub slider_form : (t : Tree) → makes_slider t ≡ true → IsSlider t
+slider_form (literal token) h = absurd (cc)
+slider_form (name y) h = absurd (cc)
+slider_form (sum a b) h = absurd (cc)
+slider_form (attribute base y) h = absurd (cc)
+slider_form (call f args) h =
+    let s = and_parts _ _ h in
+    let two = bounds_form args s.1 in
+    record { bounds = two.bounds; is = ap (λ t. call t args) (maker_form f s.0) ∙ ap (call maker) two.is; ordered = two.ordered }
+
+-- and back: bounds in order make a slider
+pub slider_made : (b : Bounds) → are_bounds b.low b.high ≡ true → makes_slider (slider b) ≡ true
+unfolding are_bounds
+slider_made b h = h

@@ -1,0 +1,18 @@
+-- Lines after lines.
+use Rattle.std.proofs.Common.{◌≡◌, ℕ, ◌+◌, List, [], ◌∷◌, ◌++◌, refl, sym, ap, ◌∙◌, append_assoc, length-append, arith}
+use Rattle.std.proofs.lemmas.List.Concat.{flat_map-append}
+use Rattle.thin_form.specs.FileReading.{At, IsPast}
+use Rattle.py_tree.specs.TextLines.{text_of}
+
+pub text-append : (xs ys : List (List ℕ)) → text_of (xs ++ ys) ≡ text_of xs ++ text_of ys
+text-append xs ys = flat_map-append (λ (l : List ℕ). l ++ 10 ∷ []) xs ys
+
+pub past_none : (a : At) → IsPast a a [] 0
+past_none a = record { bytes = refl; line = omega arith; room = omega arith }
+
+pub past_on : (a b c : At) (xs ys : List (List ℕ)) (m n : ℕ) → IsPast a b xs m → IsPast b c ys n → IsPast a c (xs ++ ys) (m + n)
+past_on a b c xs ys m n p q = record {
+  bytes = p.bytes ∙ (ap (λ (l : List ℕ). text_of xs ++ l) q.bytes ∙ (sym (append_assoc (text_of xs) (text_of ys) c.bytes) ∙ ap (λ (l : List ℕ). l ++ c.bytes) (sym (text-append xs ys))));
+  line = omega (arith, p.line, q.line, length-append xs ys);
+  room = omega (arith, p.room, q.room);
+}

@@ -1,0 +1,9 @@
+pub mod Choices
+pub mod Elements
+pub mod FileReading
+pub mod Lines
+pub mod Places
+pub mod Refused
+pub mod Sliders
+pub mod Sums
+pub mod Words

@@ -1,0 +1,128 @@
+// What the lines of a file say of its elements.
+ghost use Rattle.std.specs.Prelude.{◌≡◌, codes, IfOk, OnOk};
+ghost use Rattle.std.specs.Str.{bytes_eq};
+ghost use Rattle.thin_form.specs.Elements.{as_elements, unknown, Learns};
+ghost use Rattle.form_meaning.specs.Fails.{AreElements};
+
+use crate::sliders::slider_in;
+use py_tree::whole_line;
+use py_value::Memory;
+use std::alloc::Global;
+use std::collections::BTreeSet;
+use std::marker::Model;
+
+// Whether the line, with its indent, imports `mo`.
+fn is_import(line: &[u8]) -> bool
+    ensures { result ≡ bytes_eq line.now (codes "    import marimo as mo") }
+{
+    line == b"    import marimo as mo".as_slice()
+}
+
+// The names of the sliders that lines make, and whether a line imports `mo`.
+#[derive(Drop)]
+pub struct Elements<'a> {
+    sliders: BTreeSet<&'a str>,
+    imported: bool,
+}
+
+impl<'a> Model for Elements<'a> {
+    ghost use Rattle.std.specs.Prelude.{map};
+    ghost use Rattle.thin_form.specs.Elements.{Known};
+
+    ghost Value = { Known };
+
+    ghost view = { λ es. record { sliders = map (λ name. name.now) es.sliders.keys; imported = es.imported } };
+}
+
+impl<'a> Elements<'a> {
+    // Before any line.
+    fn new(alloc: Global) -> Self
+        ensures { result ≡ unknown }
+    {
+        Elements {
+            sliders: BTreeSet::new(alloc),
+            imported: false,
+        }
+    }
+
+    // Whether the name is that of a slider.
+    pub fn is_slider(&self, name: &str) -> bool
+        ensures { result ≡ (as_elements self.now).is_slider name.now }
+    {
+        self.sliders.contains(name)
+    }
+
+    // Whether a line imports `mo`.
+    pub fn imported(&self) -> bool
+        ensures { result ≡ (as_elements self.now).imported }
+    {
+        self.imported
+    }
+
+    // Takes in what a line says.
+    fn learn(&mut self, line: &'a [u8]) -> Result<(), Memory>
+        ensures { OnOk result (Learns line.now self.old self.new) }
+    {
+        self.imported |= is_import(line);
+        if let Some(name) = slider_in(line) {
+            self.sliders.insert(name)?;
+        }
+        Ok(())
+    }
+
+    /// What the whole lines of these bytes say, also the lines behind one that doesn't fit.
+    pub fn of(alloc: Global, bytes: &'a [u8]) -> Result<Elements<'a>, Memory>
+        ensures { IfOk result (λ es. AreElements bytes.now (as_elements es)) }
+    {
+        let mut elements = Elements::new(alloc);
+        let mut rest = bytes;
+        while let Some((line, after)) = whole_line(rest) {
+            elements.learn(line)?;
+            rest = after;
+        }
+        Ok(elements)
+    }
+}
+
+#[cfg(test)]
+mod tests {
+    use super::*;
+    use std::test::Fail;
+
+    #[test]
+    fn finds_sliders_on_any_line(rt: HostRuntime) -> Result<(), Fail> {
+        let bytes =
+            b"no line of the form\n    a = mo.ui.slider(0, 1)\n    b = mo.ui.slider(1, 0)\nc = mo.ui.slider(0, 1)\n\xff\n    \xff\n    d = mo.ui.slider(3, 3)\n    f = mo.ui.slider(0, 1)";
+        let elements = Elements::of(rt.alloc(), bytes)?;
+        for (name, want) in [
+            ("a", true),
+            ("b", false),
+            ("c", false),
+            ("d", true),
+            ("e", false),
+            ("f", false),
+        ] {
+            assert_eq!(rt; elements.is_slider(name), want, "at {name:?}");
+        }
+        Ok(())
+    }
+
+    #[test]
+    fn finds_the_import(rt: HostRuntime) -> Result<(), Fail> {
+        let files: [(&[u8], bool); 5] = [
+            (b"x\n    import marimo as mo\n", true),
+            (b"    import marimo as mo", false),
+            (b"import marimo as mo\n", false),
+            (b"    import marimo as mo \n", false),
+            (b"", false),
+        ];
+        for (bytes, want) in files {
+            assert_eq!(rt;
+                Elements::of(rt.alloc(), bytes)?.imported(),
+                want,
+                "at {bytes:?}"
+            );
+        }
+        Ok(())
+    }
+}

@@ -1,0 +1,17 @@
+pub mod AtKept
+pub mod Coincidence
+pub mod FixedPoint
+pub mod Going
+pub mod InBeing
+pub mod InOrder
+pub mod Kept
+pub mod LookUps
+pub mod Makes
+pub mod MessageTexts
+pub mod OneByOne
+pub mod Outcomes
+pub mod PresentValues
+pub mod RerunSuffices
+pub mod ResultsOf
+pub mod SettingValues
+pub mod Standing
