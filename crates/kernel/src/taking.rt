@@ -20,9 +20,9 @@ use crate::kernel_state::KernelState;
 use crate::message::{Message, read_message};
 use cell_graph::Notebook;
 use frames::Frame;
-use run_meaning::Binding;
 use py_eval::Env;
 use py_value::{Element, Lines, Memory, Text, Value, copy};
+use run_meaning::Binding;
 use std::alloc::Global;
 use ui_elements::{AdmitFault, Present, admit};
 

@@ -10,9 +10,9 @@ ghost use Rattle.py_tree.specs.View.{view_cells};
 
 use crate::frame_line::set_line;
 use cell_graph::Notebook;
+use frames::Frame;
 use kernel::{Kernel, Stepped, open};
 use link_io::{Failed, Sink, write_all};
-use frames::Frame;
 use py_eval::Steps;
 use py_value::Memory;
 use std::alloc::Global;
