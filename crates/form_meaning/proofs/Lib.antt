@@ -1,1 +1,2 @@
+-- For `worked_failures`.
 pub mod Failures

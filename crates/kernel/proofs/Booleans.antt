@@ -30,14 +30,6 @@ pub or_known : (b c : Bool) → b ≡ true → (b || c) ≡ true
 or_known true c h = refl
 or_known false c h = let no : false ≡ true = h in absurd cc
 
-pub or_skip : (a b c : Bool) → (a ≡ true → c ≡ true) → (c || b) ≡ (c || (a || b))
-or_skip true b c h = ap (λ c. c || b) (h refl) ∙ sym (or_known c true (h refl))
-or_skip false b c h = refl
-
-pub or_turn : (a b c : Bool) → (c || (a || b)) ≡ ((a || c) || b)
-or_turn true b c = or_true c
-or_turn false b c = refl
-
 pub not_or : (a b : Bool) → not (a || b) ≡ true → (not a ≡ true) × (not b ≡ true)
 not_or true b h = let no : false ≡ true = h in absurd cc
 not_or false b h = (refl, h)

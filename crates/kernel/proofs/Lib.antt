@@ -1,18 +1,25 @@
+-- Names, bindings and clauses, whatever the kernel does with them.
 pub mod Booleans
+pub mod PlainNames
+pub mod WithoutNames
+pub mod DroppedNames
+pub mod PutBack
+pub mod Results
 pub mod Bounds
-pub mod Cells
-pub mod Dropping
+-- For `read_text`: messages as the code reads them.
 pub mod MessageBytes
 pub mod MessageNumbers
 pub mod MessageParts
-pub mod NamesOf
-pub mod Newest
+-- For `run_cell`: a cell's run and what it leaves.
+pub mod CellRun
+pub mod CellStep
+-- For `Kernel::deliver`: what a message changes, and that it is as its answer says.
+pub mod TakenMessage
+pub mod SetValue
+-- For `Kernel::step`: the next frame, and what is kept after it.
 pub mod NextFrame
-pub mod Outcomes
-pub mod PutBack
-pub mod Setting
+pub mod Newest
+-- For each call: what stands by what is kept.
+pub mod KeptState
+-- For `every_visit`.
 pub mod SoloVisits
-pub mod Standings
-pub mod Steps
-pub mod Taken
-pub mod Without

@@ -24,7 +24,7 @@ use Rattle.kernel.specs.Visit.{Gives, newest_in}
 use Rattle.kernel.specs.declared.pending.Cells.{Cells}
 use Rattle.kernel.specs.declared.pending.Pending.TheVariants as pending
 use Rattle.kernel.specs.declared.state.KernelState.{KernelState}
-use Rattle.kernel.proofs.Steps.{parents_ok}
+use Rattle.kernel.proofs.CellStep.{parents_ok}
 
 -- ---- the cells that are left
 

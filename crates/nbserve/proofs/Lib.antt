@@ -1,4 +1,9 @@
-pub mod Carrying
+-- For `load` and `one_refusal`.
+pub mod FormFault
 pub mod OneRefusal
-pub mod Refusing
-pub mod Written
+
+-- For `carry_out`.
+pub mod Execution
+
+-- For `run_words`: what was written at each status, and what it tells.
+pub mod Output

@@ -1,1 +1,2 @@
+-- For `one_run`.
 pub mod OneRun

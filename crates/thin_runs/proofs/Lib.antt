@@ -1,5 +1,10 @@
-pub mod ThinBindings
-pub mod ThinCells
+-- For `thin_is_runnable`.
+
+-- What cells of the form read, bind and create.
 pub mod ThinCode
+pub mod ThinCells
 pub mod ThinMakes
+pub mod ThinBindings
+
+-- The record.
 pub mod ThinRuns

@@ -1,17 +1,28 @@
-pub mod AtKept
-pub mod Coincidence
-pub mod FixedPoint
-pub mod Going
-pub mod InBeing
-pub mod InOrder
-pub mod Kept
+-- What a visitor is answered: why what is kept is what is computed afresh, in the order in which the lemmas stand on one another.
+
+-- A cell by itself: what its run depends on, and what it changes.
 pub mod LookUps
+pub mod Kept
 pub mod Makes
-pub mod MessageTexts
-pub mod OneByOne
+pub mod Coincidence
 pub mod Outcomes
-pub mod PresentValues
-pub mod RerunSuffices
+
+-- The whole notebook, cell by cell: each outcome is the one from the whole's own bindings.
+pub mod InOrder
+pub mod FixedPoint
 pub mod ResultsOf
-pub mod SettingValues
+pub mod AtKept
+
+-- A rerun suffices: cells that run one after the other towards a new whole.
+pub mod OneByOne
+pub mod Going
+pub mod RerunSuffices
 pub mod Standing
+
+-- For `elements_in_being`: values that are set, and the elements that are in being.
+pub mod SetValues
+pub mod InBeing
+pub mod PresentValues
+
+-- For `messages_are_read_one_way`.
+pub mod MessageTexts

@@ -33,8 +33,8 @@ use Rattle.visit_meaning.proofs.InBeing.{creator}
 use Rattle.visit_meaning.proofs.InOrder.{definer_below}
 use Rattle.visit_meaning.proofs.LookUps.{among_left, among_right}
 use Rattle.visit_meaning.proofs.RerunSuffices.{AreTaken, unchanged}
-use Rattle.visit_meaning.proofs.SettingValues.{SameButPresent, no_element, all_set, laid_at, same_element, set_there, sets_passed, value_alike}
-use Rattle.visit_meaning.proofs.SettingValues as setting
+use Rattle.visit_meaning.proofs.SetValues.{SameButPresent, no_element, all_set, laid_at, same_element, set_there, sets_passed, value_alike}
+use Rattle.visit_meaning.proofs.SetValues as setting
 use Rattle.py_value.proofs.Computes.{a_number}
 
 -- ---- elements and what they admit

@@ -33,7 +33,7 @@ use Rattle.visit_meaning.proofs.InOrder.{any_at, any_name, definer_below, one_de
 use Rattle.visit_meaning.proofs.OneByOne.{SameResult, cell_referenced, first_filter, order_first, related_defined, same_result}
 use Rattle.graph_meaning.proofs.Orders.{free_is_listed, places_below}
 use Rattle.graph_meaning.proofs.Reaching.{is_kept, near_next, near_reader, passes}
-use Rattle.visit_meaning.proofs.SettingValues.{AllSet, laid_at, laid_by, laid_is, laid_over, laid_passed, next_kept, set_there, sets_passed, sorted_laid}
+use Rattle.visit_meaning.proofs.SetValues.{AllSet, laid_at, laid_by, laid_is, laid_over, laid_passed, next_kept, set_there, sets_passed, sorted_laid}
 
 -- Values are set in a notebook that runs: no element is kept as a value, and each value that is set is admitted by its element.
 pub record AreTaken (nb : List Cell) (budget : ℕ) (ui sets : Map Value) : Type 0 where

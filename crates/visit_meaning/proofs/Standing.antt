@@ -16,7 +16,7 @@ use Rattle.visit_meaning.proofs.FixedPoint.{whole_sorted}
 use Rattle.visit_meaning.proofs.Going.{Runs}
 use Rattle.visit_meaning.proofs.OneByOne.{but_none}
 use Rattle.visit_meaning.proofs.RerunSuffices.{AreTaken, going_again}
-use Rattle.visit_meaning.proofs.SettingValues.{AllSet, laid_over}
+use Rattle.visit_meaning.proofs.SetValues.{AllSet, laid_over}
 
 -- What is kept after the answer that left these present values: the bindings of the whole, and of each cell its frame in it.
 pub record Stands (nb : List Cell) (budget : ℕ) (ui : Map Value) (env : Env) (newest : ℕ → Option CellFrame) : Type 0 where

@@ -5,8 +5,8 @@ use Rattle.program_meaning.specs.Program.{IsAccepted}
 use Rattle.py_tree.specs.View.{view_cell, view_cells}
 use Rattle.thin_runs.proofs.ThinCode.{thin_few}
 use Rattle.nbserve.specs.CommandFault.{IsWhy, of_form}
-use Rattle.kernel.proofs.Outcomes.{if_err_of}
-use Rattle.nbserve.proofs.Refusing.{refused_by_form}
+use Rattle.kernel.proofs.Results.{if_err_of}
+use Rattle.nbserve.proofs.FormFault.{refused_by_form}
 use Rattle.nbserve.proofs.loader.load.Goals as goal
 
 pub notebook-requires : goal.notebook-requires

@@ -9,8 +9,8 @@ use Rattle.visit_meaning.specs.Runnable.{Runnable}
 use Rattle.thin_runs.proofs.ThinRuns.{thin_runnable}
 use Rattle.py_tree.specs.Trees.{Cell}
 use Rattle.py_tree.specs.View.{view_cells}
-use Rattle.nbserve.proofs.Carrying.{same_played, unloaded_stops, unplayed_stops}
-use Rattle.kernel.proofs.Outcomes.{if_err_of}
+use Rattle.nbserve.proofs.Execution.{same_played, unloaded_stops, unplayed_stops}
+use Rattle.kernel.proofs.Results.{if_err_of}
 use Rattle.nbserve.specs.Command.{asked}
 use Rattle.nbserve.specs.Execution as carried
 use Rattle.nbserve.specs.Execution.{Carried, IsPlayed}

@@ -5,7 +5,7 @@ use Rattle.visit_meaning.specs.Answer.{Before, parts_from, solo}
 use Rattle.frame_meaning.specs.FrameText.{labelled}
 use Rattle.program_meaning.specs.Program.{usual_budget}
 use Rattle.py_tree.specs.View.{view_cells}
-use Rattle.nbserve.proofs.Carrying.{cut_in_last, ended_after}
+use Rattle.nbserve.proofs.Execution.{cut_in_last, ended_after}
 use Rattle.script_run.specs.Cut as cut
 use Rattle.nbserve.specs.Output as wrote
 use Rattle.nbserve.proofs.top.perform.Goals as goal

@@ -1,7 +1,7 @@
 -- What was written is the text of the frames so far, and a beginning of one more.
 use Rattle.std.proofs.Common.{◌≡◌, arith}
-use Rattle.script_run.proofs.Giving.{given_begins, given_cut, given_next, given_none, given_part}
-use Rattle.kernel.proofs.Outcomes.{if_err_always, on_err_always}
+use Rattle.script_run.proofs.GivenFrames.{given_begins, given_cut, given_next, given_none, given_part}
+use Rattle.kernel.proofs.Results.{if_err_always, on_err_always}
 use Rattle.script_run.proofs.replay.drain.Goals as goal
 use Rattle.script_run.specs.Cut.{IsCut}
 use Rattle.script_run.specs.declared.replay.PlayFault.{PlayFault}

@@ -1,6 +1,6 @@
 -- the frames so far were written
 use Rattle.std.proofs.Common.{◌≤◌, length}
-use Rattle.script_run.proofs.Giving.{IsGiven}
+use Rattle.script_run.proofs.GivenFrames.{IsGiven}
 use Rattle.script_run.proofs.replay.drain.Given as goal
 
 abbrev pub invariant-loop-frame : goal.invariant-loop-frame

@@ -7,9 +7,9 @@ use Rattle.frame_meaning.specs.FrameText.{labelled}
 use Rattle.visit_meaning.specs.Messages.{AreMessages}
 use Rattle.py_tree.specs.Trees.{Cell}
 use Rattle.py_tree.specs.View.{view_cells}
-use Rattle.script_run.proofs.Giving.{cut_behind, lines_append, lines_of, part_of_lines, took_lines}
-use Rattle.kernel.proofs.Outcomes.{if_err_of, on_err_always}
-use Rattle.script_run.proofs.Playing.{played_all, played_answer, played_begins, played_message, played_new}
+use Rattle.script_run.proofs.GivenFrames.{cut_behind, lines_append, lines_of, part_of_lines, took_lines}
+use Rattle.kernel.proofs.Results.{if_err_of, on_err_always}
+use Rattle.script_run.proofs.PlayedMessages.{played_all, played_answer, played_begins, played_message, played_new}
 use Rattle.script_run.proofs.replay.play.Goals as goal
 use Rattle.script_run.specs.Cut.{IsCut}
 use Rattle.script_run.specs.declared.replay.PlayFault.{PlayFault}

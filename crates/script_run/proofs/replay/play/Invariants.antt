@@ -2,8 +2,8 @@
 use Rattle.std.proofs.Common.{List, ◌≤◌, map, take}
 use Rattle.link_io.specs.Outside.{Took}
 use Rattle.visit_meaning.specs.Answer.{Part}
-use Rattle.script_run.proofs.Giving.{lines_of}
-use Rattle.script_run.proofs.Playing.{IsPlayed}
+use Rattle.script_run.proofs.GivenFrames.{lines_of}
+use Rattle.script_run.proofs.PlayedMessages.{IsPlayed}
 use Rattle.script_run.proofs.replay.play.Given as goal
 
 abbrev pub invariant-loop-message : goal.invariant-loop-message

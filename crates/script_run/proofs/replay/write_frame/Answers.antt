@@ -1,6 +1,6 @@
 -- Where memory is wanting nothing was written.
 use Rattle.link_io.proofs.Taken.{part_none}
-use Rattle.kernel.proofs.Outcomes.{on_err_always}
+use Rattle.kernel.proofs.Results.{on_err_always}
 use Rattle.script_run.proofs.replay.write_frame.Goals as goal
 
 pub returns-in_err-set_line-clause-begun : goal.returns-in_err-set_line-clause-begun

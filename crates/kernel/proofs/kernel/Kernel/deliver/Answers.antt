@@ -1,7 +1,7 @@
 -- The frames to come are counted, and what is kept stands.
 use Rattle.std.proofs.Common.{◌≡◌, ◌∙◌, refl, sym, ap, length, arith}
 use Rattle.kernel.specs.Visit.{Visit}
-use Rattle.kernel.proofs.Standings.{pending_of, stands_now}
+use Rattle.kernel.proofs.KeptState.{pending_of, stands_now}
 use Rattle.kernel.proofs.kernel.Kernel.deliver.Goals as goal
 
 pub returns-then-pending-gt0-clause-delivers : goal.returns-then-pending-gt0-clause-delivers

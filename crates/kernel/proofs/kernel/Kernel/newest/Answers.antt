@@ -1,5 +1,5 @@
 -- What is kept stands.
-use Rattle.kernel.proofs.Standings.{stands_of}
+use Rattle.kernel.proofs.KeptState.{stands_of}
 use Rattle.kernel.proofs.kernel.Kernel.newest.Goals as goal
 
 pub returns-in-Some-Some-clause-stands : goal.returns-in-Some-Some-clause-stands

@@ -1,5 +1,5 @@
 -- The frames to come are counted.
-use Rattle.kernel.proofs.Standings.{pending_of}
+use Rattle.kernel.proofs.KeptState.{pending_of}
 use Rattle.kernel.proofs.kernel.Kernel.pending.Goals as goal
 
 pub returns-clause-count : goal.returns-clause-count

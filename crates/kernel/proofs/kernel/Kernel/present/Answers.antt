@@ -1,5 +1,5 @@
 -- What is kept stands.
-use Rattle.kernel.proofs.Standings.{stands_of}
+use Rattle.kernel.proofs.KeptState.{stands_of}
 use Rattle.kernel.proofs.kernel.Kernel.present.Goals as goal
 
 pub returns-clause-stands : goal.returns-clause-stands

@@ -1,5 +1,5 @@
 -- What is kept stands.
-use Rattle.kernel.proofs.Standings.{stands_now}
+use Rattle.kernel.proofs.KeptState.{stands_now}
 use Rattle.kernel.proofs.kernel.Kernel.step.Goals as goal
 
 pub returns-clause-stands : goal.returns-clause-stands

@@ -6,8 +6,8 @@ use Rattle.graph_meaning.specs.Reruns.{rerun}
 use Rattle.py_tree.specs.View.{view_cells}
 use Rattle.py_value.specs.Maps.{put}
 use Rattle.kernel.specs.declared.pending.Cells.TheVariants as cells
-use Rattle.kernel.proofs.Dropping.{apart_from}
-use Rattle.kernel.proofs.Setting.{again_there, set_kept, set_taken}
+use Rattle.kernel.proofs.DroppedNames.{apart_from}
+use Rattle.kernel.proofs.SetValue.{again_there, set_kept, set_taken}
 use Rattle.kernel.proofs.state.KernelState.keep_value.Goals as goal
 
 pub drop_created-requires : goal.drop_created-requires

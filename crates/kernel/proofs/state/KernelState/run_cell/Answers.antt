@@ -7,9 +7,9 @@ use Rattle.py_tree.specs.Trees.{Cell}
 use Rattle.py_tree.specs.View.{view_cell, view_cells}
 use Rattle.py_value.specs.Maps.{where_name}
 use Rattle.kernel.specs.KernelState.{IsPlain, outcome_at, run_of}
-use Rattle.kernel.proofs.Cells.{plain_after, plain_without, removed_again}
-use Rattle.kernel.proofs.Outcomes.{on_ok_then, if_ok_each}
-use Rattle.kernel.proofs.Steps.{code_at, one_code, parents_there, may_run, defs_are, elements_are, cancelled_outcome, ran_outcome}
+use Rattle.kernel.proofs.CellRun.{plain_after, plain_without, removed_again}
+use Rattle.kernel.proofs.Results.{on_ok_then, if_ok_each}
+use Rattle.kernel.proofs.CellStep.{code_at, one_code, parents_there, may_run, defs_are, elements_are, cancelled_outcome, ran_outcome}
 use Rattle.kernel.proofs.state.KernelState.run_cell.Goals as goal
 
 pub all_ok-requires : goal.all_ok-requires

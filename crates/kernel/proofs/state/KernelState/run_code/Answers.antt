@@ -3,8 +3,8 @@ use Rattle.std.proofs.Common.{◌∙◌, ap, ◌+◌}
 use Rattle.py_tree.specs.View.{view_cell}
 use Rattle.kernel.specs.KernelState.{run_of}
 use Rattle.kernel.specs.CellRun.{settled}
-use Rattle.kernel.proofs.Cells.{run_here, frame_shown, cost_shown, env_shown}
-use Rattle.kernel.proofs.Outcomes.{if_ok_along, on_ok_always}
+use Rattle.kernel.proofs.CellRun.{run_here, frame_shown, cost_shown, env_shown}
+use Rattle.kernel.proofs.Results.{if_ok_along, on_ok_always}
 use Rattle.kernel.proofs.state.KernelState.run_code.Goals as goal
 
 pub returns-clause-frame : goal.returns-clause-frame

@@ -3,7 +3,7 @@ use Rattle.std.specs.Int.{w128}
 use Rattle.std.proofs.lemmas.Int.{to_z-of_z}
 use Rattle.std.proofs.lemmas.Result.{on_ok_weaker}
 use Rattle.py_value.specs.declared.types.Value.TheVariants as V
-use Rattle.kernel.proofs.Setting.{number_fits}
+use Rattle.kernel.proofs.SetValue.{number_fits}
 use Rattle.kernel.proofs.state.KernelState.set.Goals as goal
 
 pub returns-in-Ok-clause-kept : goal.returns-in-Ok-clause-kept

@@ -1,6 +1,6 @@
 -- All cells are to run, from nothing.
 use Rattle.kernel.specs.declared.pending.Cells.TheVariants as cells
-use Rattle.kernel.proofs.Taken.{opened_kept, opened_taken}
+use Rattle.kernel.proofs.TakenMessage.{opened_kept, opened_taken}
 use Rattle.kernel.proofs.state.KernelState.start.Goals as goal
 
 pub returns-clause-kept : goal.returns-clause-kept

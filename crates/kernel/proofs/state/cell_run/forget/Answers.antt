@@ -3,7 +3,7 @@ use Rattle.std.proofs.Common.{◌∙◌, sym, ap, drop, not, ◌+◌}
 use Rattle.std.specs.Str.{bytes_eq}
 use Rattle.py_tree.specs.Names.{is_among}
 use Rattle.py_value.specs.Maps.{where_name}
-use Rattle.kernel.proofs.Without.{without_more, without_none}
+use Rattle.kernel.proofs.WithoutNames.{without_more, without_none}
 use Rattle.kernel.proofs.state.cell_run.forget.Goals as goal
 
 pub loop-name-preserved : goal.loop-name-preserved

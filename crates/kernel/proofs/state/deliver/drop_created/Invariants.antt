@@ -3,7 +3,7 @@ use Rattle.std.proofs.Common.{◌≡◌, ◌+◌, ◌++◌, drop}
 use Rattle.std.specs.Prelude.{flat_map}
 use Rattle.graph_meaning.specs.Graph.{elements_of}
 use Rattle.py_tree.specs.View.{view_cells}
-use Rattle.kernel.proofs.Dropping.{apart_from}
+use Rattle.kernel.proofs.DroppedNames.{apart_from}
 use Rattle.kernel.proofs.state.deliver.drop_created.Given as goal
 
 abbrev pub invariant-loop-cell : goal.invariant-loop-cell

@@ -26,7 +26,7 @@ use Rattle.frames.specs.declared.frame.Frame.{Frame}
 use Rattle.frames.specs.declared.frame.Frame.TheVariants as frame
 use Rattle.visit_meaning.proofs.AtKept.{next_plain}
 use Rattle.visit_meaning.proofs.ResultsOf.{one_each_kept, results_one_by_one}
-use Rattle.visit_meaning.proofs.SettingValues.{laid_over}
+use Rattle.visit_meaning.proofs.SetValues.{laid_over}
 use Rattle.visit_meaning.proofs.Standing as standing
 use Rattle.kernel.specs.Pending.{cells_of, left_of}
 use Rattle.kernel.specs.KernelState.{IsAfter, IsKept, IsPlain, StandsBy, state_of, visit_of}
@@ -34,8 +34,8 @@ use Rattle.kernel.specs.Visit.{Takes, newest_in}
 use Rattle.kernel.specs.declared.pending.Cells.{Cells}
 use Rattle.kernel.specs.declared.pending.Pending.TheVariants as pending
 use Rattle.kernel.specs.declared.state.KernelState.{KernelState}
-use Rattle.kernel.proofs.Dropping.{apart_from}
-use Rattle.kernel.proofs.Taken.{counted_cells, few, order_there, runs_of}
+use Rattle.kernel.proofs.DroppedNames.{apart_from}
+use Rattle.kernel.proofs.TakenMessage.{counted_cells, few, order_there, runs_of}
 
 -- bindings in order without names with leading underscores
 plain_of : (env : Env) → HasNoLocals env → IsSortedMap env → IsPlain env

@@ -15,8 +15,8 @@ use Rattle.py_value.specs.Maps.{where_name}
 use Rattle.kernel.specs.KernelState.{IsPlain, run_of}
 use Rattle.kernel.specs.CellRun.{frame_after, status_after, error_after, settled}
 use Rattle.kernel.specs.declared.state.KernelState.{KernelState}
-use Rattle.kernel.proofs.NamesOf.{among_defs, among_plain}
-use Rattle.kernel.proofs.Without.{where_name_all, where_name_again, where_name_same, where_name_swap}
+use Rattle.kernel.proofs.PlainNames.{among_defs, among_plain}
+use Rattle.kernel.proofs.WithoutNames.{where_name_all, where_name_again, where_name_same, where_name_swap}
 
 -- the run is that of the cell where the elements that the scene names are its own
 pub run_here : (r : Ran) (after : Env) (s : KernelState) (code : Cell) (own : List Name) → own ≡ elements code → Shows r after s.budget (runs (record { own = own; present = s.present }) s.env code.body s.budget) → Shows r after s.budget (run_of s code)

@@ -5,7 +5,7 @@ use Rattle.std.specs.Str.{bytes_eq}
 use Rattle.std.proofs.lemmas.List.{drop_all}
 use Rattle.py_tree.specs.Names.{is_among}
 use Rattle.py_value.specs.Maps.{Map, where_name}
-use Rattle.kernel.proofs.Without.{without_more, without_none}
+use Rattle.kernel.proofs.WithoutNames.{without_more, without_none}
 
 -- the entries whose names are none of these
 abbrev pub apart_from : {V : Type 0} → List (List ℕ) → Map V → Map V
