@@ -25,8 +25,5 @@ read_line es text =
 
 -- the tree is a call
 abbrev pub is_call : Tree → Bool
-is_call (literal token) = false
-is_call (name x) = false
-is_call (sum a b) = false
-is_call (attribute base x) = false
 is_call (call callee args) = true
+is_call t = false
