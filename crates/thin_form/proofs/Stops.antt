@@ -11,7 +11,7 @@ use Rattle.thin_form.specs.declared.thin_file.ThinFault.TheVariants.{Thin, Memor
 use Rattle.thin_form.proofs.Bodies.{IsKept}
 use Rattle.thin_form.proofs.Leads.{alone_body, count-append, leads-append, leads-one, line_is_body, shared_body}
 use Rattle.thin_form.proofs.Parts.{cell_parts, first_line, whole_parts}
-use Rattle.thin_form.proofs.Places.{text-append}
+use Rattle.py_tree.proofs.Breaks.{text-append}
 use Rattle.thin_form.proofs.WholeCells.{bodies, bodies-cons}
 use Rattle.form_meaning.specs.Fails.{is_body_line, IsAlone}
 use Rattle.form_meaning.specs.Thin.{Elements, is_line, stands_alone, is_empty, is_plain, are_lines, line_count, is_cell, are_cells, body_lines, cell_lines, line_text, import_line, app_line, decorator_line, definition_line, main_line, last_line, is_whole}

@@ -10,7 +10,8 @@ use Rattle.thin_form.specs.declared.thin_file.ThinFault.{ThinFault}
 use Rattle.thin_form.specs.declared.thin_file.ThinFault.TheVariants.{Thin, Memory}
 use Rattle.thin_form.proofs.Beginnings.{stuck_fails}
 use Rattle.thin_form.proofs.FileElements.{same_elements}
-use Rattle.thin_form.proofs.Places.{past_on, text-append}
+use Rattle.py_tree.proofs.Breaks.{text-append}
+use Rattle.thin_form.proofs.Places.{past_on}
 use Rattle.thin_form.proofs.WholeCells.{bodies}
 use Rattle.form_meaning.specs.Fails.{AreElements}
 use Rattle.form_meaning.specs.Thin.{Elements, IsForm, elements_of, are_cells, cell_lines, import_line, app_line, main_line, last_line, header, footer, file_lines}
