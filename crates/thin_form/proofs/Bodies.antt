@@ -1,7 +1,7 @@
 -- A body that is read line by line.
 use Rattle.std.proofs.Common.{◌≡◌, ℕ, ◌+◌, ◌<◌, ◌≤◌, Bool, true, false, cond, not, IsTrue, List, [], ◌∷◌, ◌++◌, length, ◌⊎◌, inl, inr, refl, sym, ap, ◌∙◌, append_assoc, add-zero, arith, subst}
 use Rattle.std.proofs.lemmas.Bool.{and_parts, and_from, or_right, false≢true}
-use Rattle.thin_form.specs.FileReading.{At, BeginsWith, HasBody, HasStmt, IsIndented, IsPlaced}
+use Rattle.thin_form.specs.FileParts.{At, BeginsWith, HasBody, HasStmt, IsIndented, IsPlaced}
 use Rattle.thin_form.specs.Places.{AfterAlone, AfterBody, IsApart, place_after}
 use Rattle.thin_form.proofs.Parts.{first_line, line_before, untrue, whole_parts}
 use Rattle.py_tree.proofs.Breaks.{text-append}

@@ -4,7 +4,7 @@ use Rattle.std.specs.Prelude.{flat_map}
 use Rattle.std.specs.List.{count_by}
 use Rattle.std.proofs.lemmas.Bool.{and_parts, not-true, false≢true}
 use Rattle.std.proofs.lemmas.List.Concat.{flat_map-append}
-use Rattle.thin_form.specs.FileReading.{At, HasBody, HasCell, HasCells, IsIndented, IsPast}
+use Rattle.thin_form.specs.FileParts.{At, HasBody, HasCell, HasCells, IsIndented, IsPast}
 use Rattle.thin_form.specs.Places.{Place, First, Second, Between, Definition, Body, AfterBody, AfterAlone, Last, Past, IsBody, IsNoNext, IsShared, Fits, first, second, decorator, main, definition, body, next_body, next_decorator, next_main, alone, decorator_behind, main_behind, last, Leads, none, then_fits, IsApart, IsBetween, place_after, IsStuck, StopsAt}
 use Rattle.thin_form.specs.declared.thin_file.ThinFault.{ThinFault}
 use Rattle.thin_form.specs.declared.thin_file.ThinFault.TheVariants.{Thin, Memory}

@@ -3,7 +3,7 @@ use Rattle.std.proofs.Common.{◌≡◌, ℕ, ◌+◌, ◌<◌, ◌≤◌, not, 
 use Rattle.std.specs.Prelude.{flat_map, sum_by}
 use Rattle.std.proofs.lemmas.Bool.{and_parts, and_from, false≢true}
 use Rattle.std.proofs.lemmas.List.{append_cancel_left}
-use Rattle.thin_form.specs.FileReading.{At, BeginsWith, HasBody, HasCell, HasCells, IsPast}
+use Rattle.thin_form.specs.FileParts.{At, BeginsWith, HasBody, HasCell, HasCells, IsPast}
 use Rattle.std.proofs.lemmas.List.Concat.{flat_map-append}
 use Rattle.std.proofs.lemmas.List.Sums.{sum_by-append}
 use Rattle.thin_form.proofs.Bodies.{length-lines}

@@ -3,7 +3,7 @@ use Rattle.std.proofs.Common.{◌≡◌, ℕ, ◌≤◌, IsTrue, List, [], ◌�
 use Rattle.std.specs.Prelude.{flat_map}
 use Rattle.std.proofs.lemmas.Bool.{and_parts, and_from, leb-true, le-leb}
 use Rattle.std.proofs.lemmas.List.{append_cancel_left}
-use Rattle.thin_form.specs.FileReading.{At, BeginsWith, HasCells, IsPast}
+use Rattle.thin_form.specs.FileParts.{At, BeginsWith, HasCells, IsPast}
 use Rattle.thin_form.specs.Places.{First, IsStuck, StopsAt}
 use Rattle.thin_form.specs.Refused.{IsCauseOf}
 use Rattle.thin_form.specs.declared.thin_file.ThinFault.{ThinFault}

@@ -5,7 +5,7 @@ use Rattle.form_meaning.specs.Fails.{is_body_line, IsAlone}
 use Rattle.form_meaning.specs.Thin.{Elements, is_line, stands_alone, line_text, import_line, app_line, decorator_line, definition_line, main_line, last_line}
 use Rattle.py_tree.specs.TextLines.{text_of}
 use Rattle.py_tree.specs.Trees.{Head, stmt, Stmts, end, then_comes}
-use Rattle.thin_form.specs.FileReading.{At, IsIndented}
+use Rattle.thin_form.specs.FileParts.{At, IsIndented}
 use Rattle.thin_form.specs.declared.thin_file.ThinFault.{ThinFault}
 use Rattle.thin_form.specs.declared.thin_file.ThinFault.TheVariants.{Thin, Memory}
 

@@ -35,7 +35,7 @@ fn bounds_in<'a>(first: &'a str, second: &'a str) -> Option<(&'a str, &'a str)>
 }
 
 // The bounds that `mo.ui.slider(LOW, HIGH)` names.
-pub fn bounds(text: &str) -> Option<(&str, &str)>
+pub fn read_bounds(text: &str) -> Option<(&str, &str)>
     ensures { option_map (λ p. record { low = p.0.now; high = p.1.now }) result
         ≡ reading.read_bounds (words text.now) }
 {
@@ -51,7 +51,7 @@ fn slider_name(text: &str) -> Option<&str>
     if !is_name(name) {
         return None;
     }
-    bounds(value)?;
+    read_bounds(value)?;
     Some(name)
 }
 

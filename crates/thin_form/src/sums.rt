@@ -1,11 +1,11 @@
 // Sums.
 ghost use Rattle.std.specs.Prelude.{◌≡◌, IfOk, option_map};
-ghost use Rattle.thin_form.specs.Elements.{as_elements};
+ghost use Rattle.thin_form.specs.SliderNames.{as_elements};
 ghost use Rattle.thin_form.specs.Sums as reading;
 ghost use Rattle.thin_form.specs.Words.{words, words_left};
 ghost use Rattle.py_tree.specs.View.{view};
 
-use crate::elements::Elements;
+use crate::slider_names::SliderNames;
 use py_tree::{Expr, is_name, number};
 use crate::trees;
 use crate::words::{next_word, without_back};
@@ -15,7 +15,7 @@ use std::alloc::Global;
 const MAX_TERMS: u32 = 32;
 
 // `NAME.value`, where the word is this and the name is that of a slider.
-fn slider_value(alloc: Global, word: &str, elements: &Elements) -> Result<Option<Expr>, Memory>
+fn read_value(alloc: Global, word: &str, elements: &SliderNames) -> Result<Option<Expr>, Memory>
     ensures { IfOk result
         (λ o. option_map view o ≡ reading.read_value (as_elements elements.now) word.now) }
 {
@@ -30,7 +30,7 @@ fn slider_value(alloc: Global, word: &str, elements: &Elements) -> Result<Option
 }
 
 // The name, the number or the value of a slider that the word is.
-fn term(alloc: Global, word: &str, elements: &Elements) -> Result<Option<Expr>, Memory>
+fn read_term(alloc: Global, word: &str, elements: &SliderNames) -> Result<Option<Expr>, Memory>
     ensures { IfOk result
         (λ o. option_map view o ≡ reading.read_term (as_elements elements.now) word.now) }
 {
@@ -43,7 +43,7 @@ fn term(alloc: Global, word: &str, elements: &Elements) -> Result<Option<Expr>, 
     if number(word).is_some() {
         return Ok(Some(trees::numeral(alloc, word)?));
     }
-    slider_value(alloc, word, elements)
+    read_value(alloc, word, elements)
 }
 
 // The word after `+ `, and the text after it.
@@ -58,12 +58,12 @@ fn next_term(text: &str) -> Option<(&str, Option<&str>)>
 }
 
 // The sum that the text spells: at most `MAX_TERMS` terms, each but the first behind ` + `.
-pub fn sum(alloc: Global, text: &str, elements: &Elements) -> Result<Option<Expr>, Memory>
+pub fn read_sum(alloc: Global, text: &str, elements: &SliderNames) -> Result<Option<Expr>, Memory>
     ensures { IfOk result
         (λ o. option_map view o ≡ reading.read_sum (as_elements elements.now) (words text.now)) }
 {
     let (first, mut rest) = next_word(text);
-    let Some(mut tree) = term(alloc, first, elements)? else {
+    let Some(mut tree) = read_term(alloc, first, elements)? else {
         return Ok(None);
     };
     for _terms in 1..MAX_TERMS {
@@ -73,10 +73,10 @@ pub fn sum(alloc: Global, text: &str, elements: &Elements) -> Result<Option<Expr
         let Some((word, after)) = next_term(text) else {
             return Ok(None);
         };
-        let Some(right) = term(alloc, word, elements)? else {
+        let Some(right) = read_term(alloc, word, elements)? else {
             return Ok(None);
         };
-        tree = trees::added(alloc, tree, right)?;
+        tree = trees::sum(alloc, tree, right)?;
         rest = after;
     }
     match rest {

@@ -32,7 +32,7 @@ pub fn numeral(alloc: Global, word: &str) -> Result<Expr, Memory>
 }
 
 // The sum of the two.
-pub fn added(alloc: Global, left: Expr, right: Expr) -> Result<Expr, Memory>
+pub fn sum(alloc: Global, left: Expr, right: Expr) -> Result<Expr, Memory>
     ensures { IfOk result (λ e. view e ≡ pure.sum (view left) (view right)) }
 {
     Ok(Expr::Sum(Boxed::new(alloc, left)?, Boxed::new(alloc, right)?))
