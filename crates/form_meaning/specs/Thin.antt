@@ -1,5 +1,5 @@
 -- The thin form of a notebook file: the cells that it has, and the text that they print.
-use Rattle.std.specs.Prelude.{◌≡◌, ℕ, ◌+◌, ◌≤◌, Bool, true, false, if◌then◌else◌, cond, not, ◌&&◌, ◌||◌, ◌==◌, nat_le, IsTrue, List, [], ◌∷◌, ◌++◌, length, flat_map, sum_by, codes}
+use Rattle.std.specs.Prelude.{◌≡◌, ℕ, ◌+◌, ◌≤◌, Bool, true, false, if◌then◌else◌, not, ◌&&◌, ◌||◌, ◌==◌, nat_le, IsTrue, List, [], ◌∷◌, ◌++◌, length, flat_map, sum_by, codes}
 use Rattle.std.specs.List.{list_all, list_any}
 use Rattle.std.specs.Str.{bytes_eq}
 use Rattle.py_tree.specs.Elements.{is_mo_ui}
@@ -116,7 +116,7 @@ are_cells es n (c ∷ cs) = is_cell es n c && are_cells es (n + 2 + line_count c
 
 -- the names of the sliders that a line makes, and that lines make
 abbrev pub head_sliders : Head → List Name
-head_sliders (assign targets t) = cond (makes_slider t) targets []
+head_sliders (assign targets t) = if makes_slider t then targets else []
 head_sliders h = []
 
 abbrev pub sliders : Stmts → List Name

@@ -18,26 +18,44 @@ use py_value::Memory;
 use std::alloc::Global;
 use std::str;
 
-// What the name is assigned: a slider where the name is that of one, else a sum.
-fn read_assigned(
-    alloc: Global,
-    name: &str,
-    value: &str,
-    elements: &SliderNames,
-) -> Result<Option<Expr>, Memory>
-    ensures { IfOk result
-        (λ o. option_map view o
-        ≡ reading.read_assigned (as_elements elements.now) name.now (words value.now)) }
+/// The line that the text of a body line spells, without its indent and its `\n`; none where it spells no line of the form in a
+/// file with these elements.
+pub fn read_body_line(alloc: Global, text: &[u8], elements: &SliderNames) -> Result<Option<Line>, Memory>
+    ensures found { IfOk result
+        (λ o. IfSome o
+        (λ l. IsTrue (is_line (as_elements elements.now) (view_head l))
+        × (text.now ≡ head_text (view_head l)))) }
+    ensures only { (h : Head) → IsTrue (is_line (as_elements elements.now) h)
+        → text.now ≡ head_text h → IfOk result (λ o. option_map view_head o ≡ Some h) }
 {
-    if !elements.is_slider(name) {
-        return read_sum(alloc, value, elements);
+    match str::from_utf8(text) {
+        Ok(text) => read_line(alloc, text, elements),
+        Err(_) => Ok(None),
     }
-    if !elements.imported() {
-        return Ok(None);
+}
+
+/// Whether a line of the form is the whole body of its cell.
+pub fn stands_alone(line: &Line) -> bool
+    ensures { (es : thin.Elements) → IsTrue (is_line es (view_head line.now))
+        → result ≡ thin.stands_alone (view_head line.now) }
+{
+    match line {
+        Line::Assign(_, tree) => is_call(tree),
+        Line::ImportMo => true,
+        _ => false,
     }
-    match read_bounds(value) {
-        Some((low, high)) => Ok(Some(slider(alloc, low, high)?)),
-        None => Ok(None),
+}
+
+fn read_line(alloc: Global, text: &str, elements: &SliderNames) -> Result<Option<Line>, Memory>
+    ensures { IfOk result
+        (λ o. option_map view_head o ≡ reading.read_line (as_elements elements.now) text.now) }
+{
+    if let Some((name, value)) = target(text) {
+        return read_assignment(alloc, name, value, elements);
+    }
+    match read_sum(alloc, text, elements)? {
+        Some(tree) => Ok(Some(Line::Value(tree))),
+        None => Ok(read_import(text, elements)),
     }
 }
 
@@ -62,6 +80,29 @@ fn read_assignment(
     Ok(Some(Line::Assign(Spellings::of(targets), value)))
 }
 
+// What the name is assigned: a slider where the name is that of one, else a sum.
+fn read_assigned(
+    alloc: Global,
+    name: &str,
+    value: &str,
+    elements: &SliderNames,
+) -> Result<Option<Expr>, Memory>
+    ensures { IfOk result
+        (λ o. option_map view o
+        ≡ reading.read_assigned (as_elements elements.now) name.now (words value.now)) }
+{
+    if !elements.is_slider(name) {
+        return read_sum(alloc, value, elements);
+    }
+    if !elements.imported() {
+        return Ok(None);
+    }
+    match read_bounds(value) {
+        Some((low, high)) => Ok(Some(slider(alloc, low, high)?)),
+        None => Ok(None),
+    }
+}
+
 // The import of `mo`, in a file that imports it.
 fn read_import(text: &str, elements: &SliderNames) -> Option<Line>
     ensures { option_map view_head result
@@ -74,51 +115,10 @@ fn read_import(text: &str, elements: &SliderNames) -> Option<Line>
     }
 }
 
-fn read_line(alloc: Global, text: &str, elements: &SliderNames) -> Result<Option<Line>, Memory>
-    ensures { IfOk result
-        (λ o. option_map view_head o ≡ reading.read_line (as_elements elements.now) text.now) }
-{
-    if let Some((name, value)) = target(text) {
-        return read_assignment(alloc, name, value, elements);
-    }
-    match read_sum(alloc, text, elements)? {
-        Some(tree) => Ok(Some(Line::Value(tree))),
-        None => Ok(read_import(text, elements)),
-    }
-}
-
-/// The line that the text of a body line spells, without its indent and its `\n`; none where it spells no line of the form in a
-/// file with these elements.
-pub fn read_body_line(alloc: Global, text: &[u8], elements: &SliderNames) -> Result<Option<Line>, Memory>
-    ensures found { IfOk result
-        (λ o. IfSome o
-        (λ l. IsTrue (is_line (as_elements elements.now) (view_head l))
-        × (text.now ≡ head_text (view_head l)))) }
-    ensures only { (h : Head) → IsTrue (is_line (as_elements elements.now) h)
-        → text.now ≡ head_text h → IfOk result (λ o. option_map view_head o ≡ Some h) }
-{
-    match str::from_utf8(text) {
-        Ok(text) => read_line(alloc, text, elements),
-        Err(_) => Ok(None),
-    }
-}
-
 fn is_call(tree: &Expr) -> bool
     ensures { result ≡ reading.is_call (view tree.now) }
 {
     matches!(tree, Expr::Call(_, _))
-}
-
-/// Whether a line of the form is the whole body of its cell.
-pub fn stands_alone(line: &Line) -> bool
-    ensures { (es : thin.Elements) → IsTrue (is_line es (view_head line.now))
-        → result ≡ thin.stands_alone (view_head line.now) }
-{
-    match line {
-        Line::Value(_) => false,
-        Line::Assign(_, tree) => is_call(tree),
-        Line::ImportMo => true,
-    }
 }
 
 #[cfg(test)]

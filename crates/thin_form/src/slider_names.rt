@@ -11,13 +11,6 @@ use std::alloc::Global;
 use std::collections::BTreeSet;
 use std::marker::Model;
 
-// Whether the line, with its indent, imports `mo`.
-fn is_import(line: &[u8]) -> bool
-    ensures { result ≡ bytes_eq line.now (codes "    import marimo as mo") }
-{
-    line == b"    import marimo as mo".as_slice()
-}
-
 // The names of the sliders that lines make, and whether a line imports `mo`.
 #[derive(Drop)]
 pub struct SliderNames<'a> {
@@ -82,6 +75,13 @@ impl<'a> SliderNames<'a> {
         }
         Ok(elements)
     }
+}
+
+// Whether the line, with its indent, imports `mo`.
+fn is_import(line: &[u8]) -> bool
+    ensures { result ≡ bytes_eq line.now (codes "    import marimo as mo") }
+{
+    line == b"    import marimo as mo".as_slice()
 }
 
 #[cfg(test)]

@@ -9,29 +9,12 @@ use py_tree::{is_name, number};
 use crate::words::{target, two_words, without_back, without_front};
 use std::str;
 
-// Whether both are numbers, of which the first isn't the greater.
-#[tactic(auto, unfolding(crate::specs::Sliders::are_bounds))]
-fn are_bounds(low: &str, high: &str) -> bool
-    ensures { result ≡ reading.are_bounds low.now high.now }
+// The same of a whole line, of any bytes, with its indent.
+pub fn slider_in(line: &[u8]) -> Option<&str>
+    ensures { option_map (λ t. t.now) result ≡ reading.slider_in line.now }
 {
-    match (number(low), number(high)) {
-        (Some(low), Some(high)) => low <= high,
-        _ => false,
-    }
-}
-
-// The bounds in the two words of `mo.ui.slider(LOW, HIGH)`.
-fn bounds_in<'a>(first: &'a str, second: &'a str) -> Option<(&'a str, &'a str)>
-    ensures { option_map (λ p. record { low = p.0.now; high = p.1.now }) result
-        ≡ reading.bounds_in first.now second.now }
-{
-    let low = without_back(without_front(first, "mo.ui.slider(")?, ",")?;
-    let high = without_back(second, ")")?;
-    if are_bounds(low, high) {
-        Some((low, high))
-    } else {
-        None
-    }
+    let text = indented_text(line)?;
+    slider_name(text)
 }
 
 // The bounds that `mo.ui.slider(LOW, HIGH)` names.
@@ -55,14 +38,6 @@ fn slider_name(text: &str) -> Option<&str>
     Some(name)
 }
 
-// The same of a whole line, of any bytes, with its indent.
-pub fn slider_in(line: &[u8]) -> Option<&str>
-    ensures { option_map (λ t. t.now) result ≡ reading.slider_in line.now }
-{
-    let text = indented_text(line)?;
-    slider_name(text)
-}
-
 // The text behind four spaces.
 fn indented_text(line: &[u8]) -> Option<&str>
     ensures { MatchOption result
@@ -70,4 +45,29 @@ fn indented_text(line: &[u8]) -> Option<&str>
         (λ text. line.now ≡ codes "    " ++ text.now) }
 {
     str::from_utf8(line.strip_prefix(b"    ")?).ok()
+}
+
+// The bounds in the two words of `mo.ui.slider(LOW, HIGH)`.
+fn bounds_in<'a>(first: &'a str, second: &'a str) -> Option<(&'a str, &'a str)>
+    ensures { option_map (λ p. record { low = p.0.now; high = p.1.now }) result
+        ≡ reading.bounds_in first.now second.now }
+{
+    let low = without_back(without_front(first, "mo.ui.slider(")?, ",")?;
+    let high = without_back(second, ")")?;
+    if are_bounds(low, high) {
+        Some((low, high))
+    } else {
+        None
+    }
+}
+
+// Whether both are numbers, of which the first isn't the greater.
+#[tactic(auto, unfolding(crate::specs::Sliders::are_bounds))]
+fn are_bounds(low: &str, high: &str) -> bool
+    ensures { result ≡ reading.are_bounds low.now high.now }
+{
+    match (number(low), number(high)) {
+        (Some(low), Some(high)) => low <= high,
+        _ => false,
+    }
 }

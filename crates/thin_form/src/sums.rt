@@ -14,49 +14,6 @@ use std::alloc::Global;
 
 const MAX_TERMS: u32 = 32;
 
-// `NAME.value`, where the word is this and the name is that of a slider.
-fn read_value(alloc: Global, word: &str, elements: &SliderNames) -> Result<Option<Expr>, Memory>
-    ensures { IfOk result
-        (λ o. option_map view o ≡ reading.read_value (as_elements elements.now) word.now) }
-{
-    let Some(slider) = without_back(word, ".value") else {
-        return Ok(None);
-    };
-    if !is_name(slider) || !elements.is_slider(slider) {
-        return Ok(None);
-    }
-    let name = trees::name(alloc, slider)?;
-    Ok(Some(trees::attribute(alloc, name, "value")?))
-}
-
-// The name, the number or the value of a slider that the word is.
-fn read_term(alloc: Global, word: &str, elements: &SliderNames) -> Result<Option<Expr>, Memory>
-    ensures { IfOk result
-        (λ o. option_map view o ≡ reading.read_term (as_elements elements.now) word.now) }
-{
-    if is_name(word) {
-        if elements.is_slider(word) {
-            return Ok(None);
-        }
-        return Ok(Some(trees::name(alloc, word)?));
-    }
-    if number(word).is_some() {
-        return Ok(Some(trees::numeral(alloc, word)?));
-    }
-    read_value(alloc, word, elements)
-}
-
-// The word after `+ `, and the text after it.
-fn next_term(text: &str) -> Option<(&str, Option<&str>)>
-    ensures { option_map (λ p. (p.0.now, words_left (option_map (λ t. t.now) p.1))) result
-        ≡ reading.next_term (words text.now) }
-{
-    match next_word(text) {
-        ("+", Some(rest)) => Some(next_word(rest)),
-        _ => None,
-    }
-}
-
 // The sum that the text spells: at most `MAX_TERMS` terms, each but the first behind ` + `.
 pub fn read_sum(alloc: Global, text: &str, elements: &SliderNames) -> Result<Option<Expr>, Memory>
     ensures { IfOk result
@@ -83,4 +40,47 @@ pub fn read_sum(alloc: Global, text: &str, elements: &SliderNames) -> Result<Opt
         None => Ok(Some(tree)),
         Some(_) => Ok(None),
     }
+}
+
+// The word after `+ `, and the text after it.
+fn next_term(text: &str) -> Option<(&str, Option<&str>)>
+    ensures { option_map (λ p. (p.0.now, words_left (option_map (λ t. t.now) p.1))) result
+        ≡ reading.next_term (words text.now) }
+{
+    match next_word(text) {
+        ("+", Some(rest)) => Some(next_word(rest)),
+        _ => None,
+    }
+}
+
+// The name, the number or the value of a slider that the word is.
+fn read_term(alloc: Global, word: &str, elements: &SliderNames) -> Result<Option<Expr>, Memory>
+    ensures { IfOk result
+        (λ o. option_map view o ≡ reading.read_term (as_elements elements.now) word.now) }
+{
+    if is_name(word) {
+        if elements.is_slider(word) {
+            return Ok(None);
+        }
+        return Ok(Some(trees::name(alloc, word)?));
+    }
+    if number(word).is_some() {
+        return Ok(Some(trees::numeral(alloc, word)?));
+    }
+    read_value(alloc, word, elements)
+}
+
+// `NAME.value`, where the word is this and the name is that of a slider.
+fn read_value(alloc: Global, word: &str, elements: &SliderNames) -> Result<Option<Expr>, Memory>
+    ensures { IfOk result
+        (λ o. option_map view o ≡ reading.read_value (as_elements elements.now) word.now) }
+{
+    let Some(slider) = without_back(word, ".value") else {
+        return Ok(None);
+    };
+    if !is_name(slider) || !elements.is_slider(slider) {
+        return Ok(None);
+    }
+    let name = trees::name(alloc, slider)?;
+    Ok(Some(trees::attribute(alloc, name, "value")?))
 }
