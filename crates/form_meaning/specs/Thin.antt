@@ -1,6 +1,6 @@
 -- The thin form of a notebook file: the cells that it has, and the text that they print.
 use Rattle.std.specs.Prelude.{◌≡◌, ℕ, ◌+◌, ◌≤◌, Bool, true, false, if◌then◌else◌, not, ◌&&◌, ◌||◌, ◌==◌, nat_le, IsTrue, List, [], ◌∷◌, ◌++◌, length, flat_map, sum_by, codes}
-use Rattle.std.specs.List.{list_all, list_any}
+use Rattle.std.specs.List.{list_any}
 use Rattle.std.specs.Str.{bytes_eq}
 use Rattle.py_tree.specs.Elements.{is_mo_ui}
 use Rattle.py_tree.specs.Names.{Name, is_among, is_name}

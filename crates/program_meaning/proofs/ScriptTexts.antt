@@ -3,12 +3,10 @@ use Rattle.std.proofs.Common.{◌≡◌, ◌⊎◌, inl, inr, ◌∙◌, refl, s
 use Rattle.std.specs.Prelude.{codes, decimal}
 use Rattle.std.specs.Fmt.{signed_decimal}
 use Rattle.std.specs.Int.Signed.{mag}
-use Rattle.std.specs.List.{list_all}
 use Rattle.std.proofs.lemmas.Bool.{and_parts, and_from}
 use Rattle.std.proofs.lemmas.Bool.Decides.{nat_tests}
 use Rattle.std.proofs.lemmas.Fmt.{decimal_by_steps}
 use Rattle.std.proofs.lemmas.List.Folds.{list_all-append}
-use Rattle.std.proofs.lemmas.Grind.{common_steps}
 use Rattle.visit_meaning.specs.Answer.{Message, Open, Set, Other}
 use Rattle.visit_meaning.specs.Messages.{IsTextOf, IsMessage}
 use Rattle.program_meaning.specs.Scripts.{Script, Nobody, Visitor, IsSend, AreSends, AreLinesOf, IsScript, FirstLine, FaultBehind, FaultAt}

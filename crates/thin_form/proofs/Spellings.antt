@@ -55,4 +55,4 @@ pub head_joined : (h : Head) → join_with_byte 32 (head_spellings h) ≡ head_t
 head_joined (value t) = tree_joined t
 head_joined (assign targets t) =
     join_assigned (names_text targets) (spellings t) (some_words t) ∙ ap (λ s. names_text targets ++ codes " = " ++ s) (tree_joined t)
-head_joined import_mo = refl
+head_joined h = refl

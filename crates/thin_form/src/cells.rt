@@ -6,8 +6,8 @@ ghost use Rattle.thin_form.specs.Places.{Between, Body, Definition, Fits, IsBetw
 ghost use Rattle.form_meaning.specs.Thin.{is_empty, decorator_line, cell_lines, is_whole};
 ghost use Rattle.py_tree.specs.View.{view_cell, view_cells, view_stmts};
 
-use crate::slider_names::SliderNames;
 use crate::reader::Reader;
+use crate::slider_names::SliderNames;
 use crate::thin_file::ThinFault;
 use py_tree::{Block, CellCode, Stmt};
 use std::alloc::Global;
@@ -65,7 +65,11 @@ fn read_cell(
 }
 
 // Reads a body, which has one line or more.
-fn read_body(alloc: Global, reader: &mut Reader, elements: &SliderNames) -> Result<Vec<Stmt>, ThinFault>
+fn read_body(
+    alloc: Global,
+    reader: &mut Reader,
+    elements: &SliderNames,
+) -> Result<Vec<Stmt>, ThinFault>
     ensures found { IfOk result
         (λ v. HasBody (as_elements elements.now) reader.old reader.new (view_stmts v.items)) }
     ensures some { IfOk result (λ v. IsTrue (not (is_empty (view_stmts v.items)))) }

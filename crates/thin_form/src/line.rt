@@ -9,18 +9,22 @@ ghost use Rattle.py_tree.specs.Trees.{Head};
 ghost use Rattle.py_tree.specs.View.{view, view_head};
 
 use crate::slider_names::SliderNames;
-use py_tree::{Expr, Line, Spellings, is_name};
 use crate::sliders::read_bounds;
 use crate::sums::read_sum;
 use crate::trees::{slider, spelling};
 use crate::words::target;
+use py_tree::{Expr, Line, Spellings, is_name};
 use py_value::Memory;
 use std::alloc::Global;
 use std::str;
 
 /// The line that the text of a body line spells, without its indent and its `\n`; none where it spells no line of the form in a
 /// file with these elements.
-pub fn read_body_line(alloc: Global, text: &[u8], elements: &SliderNames) -> Result<Option<Line>, Memory>
+pub fn read_body_line(
+    alloc: Global,
+    text: &[u8],
+    elements: &SliderNames,
+) -> Result<Option<Line>, Memory>
     ensures found { IfOk result
         (λ o. IfSome o
         (λ l. IsTrue (is_line (as_elements elements.now) (view_head l))

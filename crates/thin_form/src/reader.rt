@@ -10,8 +10,8 @@ ghost use Rattle.form_meaning.specs.Thin as thin;
 ghost use Rattle.py_tree.specs.Trees.{Head};
 ghost use Rattle.py_tree.specs.View.{view_head, view_stmt};
 
-use crate::slider_names::SliderNames;
 use crate::line::{read_body_line, stands_alone};
+use crate::slider_names::SliderNames;
 use crate::thin_file::ThinFault;
 use py_tree::{Block, Line, Stmt, whole_line};
 use py_value::Memory;

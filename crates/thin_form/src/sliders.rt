@@ -5,8 +5,8 @@ ghost use Rattle.thin_form.specs.Sliders.{Bounds};
 ghost use Rattle.thin_form.specs.Sliders as reading;
 ghost use Rattle.thin_form.specs.Words.{words};
 
-use py_tree::{is_name, number};
 use crate::words::{target, two_words, without_back, without_front};
+use py_tree::{is_name, number};
 use std::str;
 
 // The same of a whole line, of any bytes, with its indent.

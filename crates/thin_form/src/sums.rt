@@ -6,9 +6,9 @@ ghost use Rattle.thin_form.specs.Words.{words, words_left};
 ghost use Rattle.py_tree.specs.View.{view};
 
 use crate::slider_names::SliderNames;
-use py_tree::{Expr, is_name, number};
 use crate::trees;
 use crate::words::{next_word, without_back};
+use py_tree::{Expr, is_name, number};
 use py_value::Memory;
 use std::alloc::Global;
 

@@ -6,8 +6,8 @@ ghost use Rattle.py_tree.specs.Trees.{Cell};
 ghost use Rattle.py_tree.specs.View.{view_cells};
 
 use crate::cells::read_cells;
-use crate::slider_names::SliderNames;
 use crate::reader::Reader;
+use crate::slider_names::SliderNames;
 use py_tree::{BYTE_LIMIT, CellCode};
 use py_value::Memory;
 use std::alloc::{AllocFailed, Global};

@@ -1,5 +1,5 @@
 -- Bytes are the text of one message.
-use Rattle.std.proofs.Common.{◌≡◌, ◌∙◌, refl, sym, ap, ℕ, ◌<◌, ◌^◌, Bool, true, not, ◌||◌, eqb, inl, inr, length, List, [], ◌∷◌, ◌++◌, append_assoc, arith, ℤ, pos, negsuc}
+use Rattle.std.proofs.Common.{◌≡◌, ◌∙◌, refl, sym, ap, ℕ, ◌<◌, ◌^◌, Bool, true, not, eqb, inl, inr, length, List, [], ◌∷◌, ◌++◌, append_assoc, arith, ℤ, pos, negsuc}
 use Rattle.std.specs.Prelude.{codes, nat_abs}
 use Rattle.std.specs.Int.Signed.{mag}
 use Rattle.std.specs.Fmt.{signed_decimal}
@@ -8,7 +8,6 @@ use Rattle.std.proofs.lemmas.Bool.{and_parts, and_from}
 use Rattle.std.proofs.lemmas.Bool.Decides.{nat_tests}
 use Rattle.std.proofs.lemmas.Fmt.{signed_decimal_injective}
 use Rattle.std.proofs.lemmas.List.{append_cancel_right}
-use Rattle.std.proofs.lemmas.Grind.{common_steps}
 use Rattle.py_tree.specs.Names.{Name, is_lower, is_plain_name, is_name}
 pub use Rattle.py_tree.specs.Names.{is_name_byte}
 use Rattle.py_tree.proofs.Breaks.{front_once}
