@@ -1,6 +1,6 @@
 -- The thin form of a notebook file: the cells that it has, and the text that they print.
-use Rattle.std.specs.Prelude.{◌≡◌, ℕ, ◌+◌, ◌≤◌, Bool, true, false, if◌then◌else◌, cond, not, ◌&&◌, ◌||◌, ◌==◌, nat_le, IsTrue, List, [], ◌∷◌, ◌++◌, length, flat_map, sum_by, codes}
-use Rattle.std.specs.List.{list_all, list_any}
+use Rattle.std.specs.Prelude.{◌≡◌, ℕ, ◌+◌, ◌≤◌, Bool, true, false, if◌then◌else◌, not, ◌&&◌, ◌||◌, ◌==◌, nat_le, IsTrue, List, [], ◌∷◌, ◌++◌, length, flat_map, sum_by, codes}
+use Rattle.std.specs.List.{list_any}
 use Rattle.std.specs.Str.{bytes_eq}
 use Rattle.py_tree.specs.Elements.{is_mo_ui}
 use Rattle.py_tree.specs.Names.{Name, is_among, is_name}
@@ -17,42 +17,29 @@ pub record Elements : Type 0 where
 -- a number
 abbrev pub is_number_tree : Tree → Bool
 is_number_tree (literal token) = is_literal token.kind token.spelling
-is_number_tree (name x) = false
-is_number_tree (sum a b) = false
-is_number_tree (attribute base x) = false
-is_number_tree (call callee args) = false
+is_number_tree t = false
 
 -- the name of a slider
 abbrev pub is_slider_name : Elements → Tree → Bool
-is_slider_name es (literal token) = false
 is_slider_name es (name x) = is_name x && es.is_slider x
-is_slider_name es (sum a b) = false
-is_slider_name es (attribute base x) = false
-is_slider_name es (call callee args) = false
+is_slider_name es t = false
 
 -- A number, a name, or `NAME.value` where NAME is that of a slider. The name of a slider stands in no other term.
 abbrev pub is_term : Elements → Tree → Bool
 is_term es (literal token) = is_literal token.kind token.spelling
 is_term es (name x) = is_name x && not (es.is_slider x)
-is_term es (sum a b) = false
 is_term es (attribute base x) = is_slider_name es base && bytes_eq x (codes "value")
-is_term es (call callee args) = false
+is_term es t = false
 
 -- terms joined by `+`, from the left
 abbrev pub is_chain : Elements → Tree → Bool
-is_chain es (literal token) = is_term es (literal token)
-is_chain es (name x) = is_term es (name x)
 is_chain es (sum a b) = is_chain es a && is_term es b
-is_chain es (attribute base x) = is_term es (attribute base x)
-is_chain es (call callee args) = false
+is_chain es t = is_term es t
 
 -- how many terms a chain has
 abbrev pub terms : Tree → ℕ
-terms (literal token) = 1
-terms (name x) = 1
 terms (sum a b) = terms a + 1
-terms (attribute base x) = 1
-terms (call callee args) = 1
+terms t = 1
 
 -- 1 to 32 terms
 abbrev pub is_sum : Elements → Tree → Bool
@@ -60,40 +47,28 @@ is_sum es t = is_chain es t && nat_le (terms t) 32
 
 -- `mo.ui.slider`
 abbrev pub is_maker : Tree → Bool
-is_maker (literal token) = false
-is_maker (name x) = false
-is_maker (sum a b) = false
 is_maker (attribute base x) = is_mo_ui base && bytes_eq x (codes "slider")
-is_maker (call callee args) = false
+is_maker t = false
 
 -- the number that a literal spells
 abbrev pub number_in : Tree → ℕ
 number_in (literal token) = number_of token.spelling
-number_in (name x) = 0
-number_in (sum a b) = 0
-number_in (attribute base x) = 0
-number_in (call callee args) = 0
+number_in t = 0
 
 -- two numbers, of which the first isn't the greater
 abbrev pub are_bounds : Trees → Bool
-are_bounds none = false
-are_bounds (more a none) = false
 are_bounds (more a (more b none)) = is_number_tree a && is_number_tree b && nat_le (number_in a) (number_in b)
-are_bounds (more a (more b (more c rest))) = false
+are_bounds ts = false
 
 -- `mo.ui.slider(LOW, HIGH)`
 abbrev pub makes_slider : Tree → Bool
-makes_slider (literal token) = false
-makes_slider (name x) = false
-makes_slider (sum a b) = false
-makes_slider (attribute base x) = false
 makes_slider (call callee args) = is_maker callee && are_bounds args
+makes_slider t = false
 
 -- one name, which is that of a slider or not
 abbrev pub is_target : Elements → Bool → List Name → Bool
-is_target es slider [] = false
 is_target es slider (x ∷ []) = is_name x && (if slider then es.is_slider x else not (es.is_slider x))
-is_target es slider (x ∷ y ∷ xs) = false
+is_target es slider xs = false
 
 -- `SUM`, `NAME = SUM`, `NAME = mo.ui.slider(LOW, HIGH)` in a file that imports `mo`, or `import marimo as mo`
 abbrev pub is_line : Elements → Head → Bool
@@ -103,9 +78,9 @@ is_line es import_mo = es.imported
 
 -- the line is the whole body of its cell
 abbrev pub stands_alone : Head → Bool
-stands_alone (value t) = false
 stands_alone (assign targets t) = makes_slider t
 stands_alone import_mo = true
+stands_alone h = false
 
 abbrev pub is_empty : Stmts → Bool
 is_empty end = true
@@ -141,9 +116,8 @@ are_cells es n (c ∷ cs) = is_cell es n c && are_cells es (n + 2 + line_count c
 
 -- the names of the sliders that a line makes, and that lines make
 abbrev pub head_sliders : Head → List Name
-head_sliders (value t) = []
-head_sliders (assign targets t) = cond (makes_slider t) targets []
-head_sliders import_mo = []
+head_sliders (assign targets t) = if makes_slider t then targets else []
+head_sliders h = []
 
 abbrev pub sliders : Stmts → List Name
 sliders end = []
@@ -151,9 +125,8 @@ sliders (then_comes (stmt k head block) rest) = head_sliders head ++ sliders res
 
 -- the line is the import, and one of the lines is
 abbrev pub is_import : Head → Bool
-is_import (value t) = false
-is_import (assign targets t) = false
 is_import import_mo = true
+is_import h = false
 
 abbrev pub has_import : Stmts → Bool
 has_import end = false

@@ -1,19 +1,19 @@
 -- Bytes are one script, or stop at one line.
-use Rattle.std.proofs.Common.{◌≡◌, ◌⊎◌, inl, inr, ◌∙◌, refl, sym, ap, subst, ℕ, zero, suc, ◌+◌, ◌<◌, ◌≤◌, ◌^◌, ◌%◌, Bool, true, not, eqb, List, [], ◌∷◌, ◌++◌, length, length-append, append_assoc, append-nil, arith, ℤ, pos, negsuc}
+use Rattle.std.proofs.Common.{◌≡◌, ◌⊎◌, inl, inr, ◌∙◌, refl, sym, ap, subst, ℕ, zero, suc, ◌+◌, ◌<◌, ◌≤◌, ◌^◌, ◌%◌, Bool, true, not, eqb, IsTrue, List, [], ◌∷◌, ◌++◌, length, length-append, append_assoc, append-nil, arith, ℤ, pos, negsuc}
 use Rattle.std.specs.Prelude.{codes, decimal}
 use Rattle.std.specs.Fmt.{signed_decimal}
 use Rattle.std.specs.Int.Signed.{mag}
-use Rattle.std.specs.List.{list_all}
 use Rattle.std.proofs.lemmas.Bool.{and_parts, and_from}
 use Rattle.std.proofs.lemmas.Bool.Decides.{nat_tests}
 use Rattle.std.proofs.lemmas.Fmt.{decimal_by_steps}
 use Rattle.std.proofs.lemmas.List.Folds.{list_all-append}
-use Rattle.std.proofs.lemmas.Grind.{common_steps}
 use Rattle.visit_meaning.specs.Answer.{Message, Open, Set, Other}
 use Rattle.visit_meaning.specs.Messages.{IsTextOf, IsMessage}
 use Rattle.program_meaning.specs.Scripts.{Script, Nobody, Visitor, IsSend, AreSends, AreLinesOf, IsScript, FirstLine, FaultBehind, FaultAt}
-use Rattle.py_tree.specs.TextLines.{text_of}
-use Rattle.visit_meaning.proofs.MessageTexts.{is_name_byte, name_passes, small_number}
+use Rattle.py_tree.specs.Names.{is_name_byte}
+use Rattle.py_tree.specs.TextLines.{is_unbroken, text_of}
+use Rattle.py_tree.proofs.Breaks.{are_unbroken, unbroken_head, cut_once, text-append, lines_once, agree}
+use Rattle.visit_meaning.proofs.MessageTexts.{name_passes, small_number}
 use Rattle.visit_meaning.proofs.MessageTexts as messages
 
 -- ---- lines of a script hold no line end
@@ -22,10 +22,10 @@ abbrev is_whole : ℕ → Bool
 is_whole b = not (eqb b 10)
 
 abbrev IsUnbroken : List ℕ → Type 0
-IsUnbroken bs = list_all is_whole bs ≡ true
+IsUnbroken bs = IsTrue (is_unbroken bs)
 
 abbrev AreUnbroken : List (List ℕ) → Type 0
-AreUnbroken lines = list_all (λ l. list_all is_whole l) lines ≡ true
+AreUnbroken lines = IsTrue (are_unbroken lines)
 
 joined : (a b : List ℕ) → IsUnbroken a → IsUnbroken b → IsUnbroken (a ++ b)
 joined a b p q = rw (list_all-append is_whole a b) (and_from _ _ p q)
@@ -73,45 +73,11 @@ lines_unbroken (line ∷ lines) (Visitor ms) h = and_from _ _ (subst IsUnbroken 
 
 -- ---- lines of one text
 
-head_whole : (c : ℕ) (a : List ℕ) → IsUnbroken (c ∷ a) → c ≡ 10 → ⊥
-head_whole c a p e = grind (arith, common_steps)
-
--- a front with no line end before a line end is the only one
-cut_once : (a b x y : List ℕ) → IsUnbroken a → IsUnbroken b → a ++ 10 ∷ x ≡ b ++ 10 ∷ y → (a ≡ b) × (x ≡ y)
-cut_once [] [] x y p q e = (refl, cc)
-cut_once [] (c ∷ b) x y p q e = absurd (head_whole c b q cc)
-cut_once (c ∷ a) [] x y p q e = absurd (head_whole c a p cc)
-cut_once (c ∷ a) (d ∷ b) x y p q e =
-    let tail : a ++ 10 ∷ x ≡ b ++ 10 ∷ y = cc in
-    let head : c ≡ d = cc in
-    let h = cut_once a b x y (and_parts _ _ p).1 (and_parts _ _ q).1 tail in
-    (ap (λ (n : ℕ). n ∷ a) head ∙ ap (λ (l : List ℕ). d ∷ l) h.0, h.1)
-
 -- what holds a line end is broken
 is_broken : (a x y : List ℕ) → IsUnbroken a → a ≡ x ++ 10 ∷ y → ⊥
 is_broken a x y p e =
     let q = rw list_all-append at (rw e at p) in
-    head_whole 10 y (and_parts _ _ q).1 refl
-
--- a list of lines, which is longer, goes on from another one
-record IsFurther (short long : List (List ℕ)) (a b : List ℕ) : Type 0 where
-  more : List (List ℕ)
-  parts : long ≡ short ++ more
-  left : a ≡ text_of more ++ b
-
-agree : (xs ys : List (List ℕ)) (a b : List ℕ) → AreUnbroken xs → AreUnbroken ys → length xs ≤ length ys → text_of xs ++ a ≡ text_of ys ++ b → IsFurther xs ys a b
-agree [] ys a b p q n e = record { more = ys; parts = refl; left = e }
-agree (x ∷ xs) [] a b p q n e = absurd (omega arith)
-agree (x ∷ xs) (y ∷ ys) a b p q n e =
-    let v = and_parts _ _ p in
-    let w = and_parts _ _ q in
-    let cut = cut_once x y (text_of xs ++ a) (text_of ys ++ b) v.0 w.0 (simp append_assoc at e) in
-    let further = agree xs ys a b v.1 w.1 (omega arith) cut.1 in
-    record {
-      more = further.more;
-      parts = ap (λ (l : List (List ℕ)). y ∷ l) further.parts ∙ ap (λ (l : List ℕ). l ∷ (xs ++ further.more)) (sym cut.0);
-      left = further.left;
-    }
+    unbroken_head 10 y (and_parts _ _ q).1 refl
 
 -- ---- a script's last line, and its first lines
 
@@ -122,8 +88,7 @@ last_send (l ∷ ls) [] line h = absurd h
 last_send (l ∷ ls) (m ∷ ms) line h = last_send ls ms line h.1
 
 pub text_more : (lines : List (List ℕ)) (line : List ℕ) → text_of (lines ++ line ∷ []) ≡ text_of lines ++ (line ++ 10 ∷ [])
-text_more [] line = append-nil _
-text_more (l ∷ ls) line = ap (λ (t : List ℕ). (l ++ 10 ∷ []) ++ t) (text_more ls line) ∙ sym (append_assoc (l ++ 10 ∷ []) (text_of ls) (line ++ 10 ∷ []))
+text_more lines line = text-append lines (line ∷ []) ∙ ap (λ (t : List ℕ). text_of lines ++ t) (append-nil (line ++ 10 ∷ []))
 
 no_empty_send : (m : Message) → IsSend [] m → ⊥
 no_empty_send m h = let spelled = h.spelled in absurd (cc)
@@ -171,29 +136,16 @@ same_script (l ∷ ls) Nobody t h j = absurd h
 same_script (l ∷ ls) (Visitor ms) Nobody h j = absurd j
 same_script (l ∷ ls) (Visitor ms) (Visitor ks) h j = ap Visitor (same_sends ls ms ks h.1 j.1)
 
-no_line : (y : List ℕ) (ys : List (List ℕ)) → [] ≡ text_of (y ∷ ys) → ⊥
-no_line y ys e = absurd (let n = ap length e in let k = length-append (y ++ 10 ∷ []) (text_of ys) in let l = length-append y (10 ∷ []) in omega arith)
-
-same_lines : (xs ys : List (List ℕ)) → AreUnbroken xs → AreUnbroken ys → text_of xs ≡ text_of ys → xs ≡ ys
-same_lines [] [] p q e = refl
-same_lines [] (y ∷ ys) p q e = absurd (no_line y ys e)
-same_lines (x ∷ xs) [] p q e = absurd (no_line x xs (sym e))
-same_lines (x ∷ xs) (y ∷ ys) p q e =
-    let v = and_parts _ _ p in
-    let w = and_parts _ _ q in
-    let cut = cut_once x y (text_of xs) (text_of ys) v.0 w.0 (simp append_assoc at e) in
-    ap (λ (l : List ℕ). l ∷ xs) cut.0 ∙ ap (λ (l : List (List ℕ)). y ∷ l) (same_lines xs ys v.1 w.1 cut.1)
-
 same_by_lines : (xs ys : List (List ℕ)) (s t : Script) → AreLinesOf xs s → AreLinesOf ys t → text_of xs ≡ text_of ys → s ≡ t
 same_by_lines xs ys s t h j e =
-    let same = same_lines xs ys (lines_unbroken xs s h) (lines_unbroken ys t j) e in
+    let same = lines_once xs ys (lines_unbroken xs s h) (lines_unbroken ys t j) e in
     same_script ys s t (subst (λ (l : List (List ℕ)). AreLinesOf l s) same h) j
 
 -- an empty line at the end is no line of a script
 no_end : (xs ys : List (List ℕ)) (s t : Script) → AreLinesOf xs s → AreLinesOf ys t → text_of xs ++ 10 ∷ [] ≡ text_of ys → ⊥
 no_end xs ys s t h j e =
     let p : AreUnbroken (xs ++ [] ∷ []) = rw list_all-append (and_from _ _ (lines_unbroken xs s h) refl) in
-    let same = same_lines (xs ++ [] ∷ []) ys p (lines_unbroken ys t j) (text_more xs [] ∙ e) in
+    let same = lines_once (xs ++ [] ∷ []) ys p (lines_unbroken ys t j) (text_more xs [] ∙ e) in
     no_empty_line xs t (subst (λ (l : List (List ℕ)). AreLinesOf l t) (sym same) j)
 
 pub one : (bytes : List ℕ) (s t : Script) → IsScript bytes s → IsScript bytes t → s ≡ t

@@ -1,4 +1,8 @@
 //! Tokens and trees of notebook code, and what they spell.
+//!
+//! Boxes and lists in types that lead back to themselves (`Boxed`, and `Items` in `py_value`) come from the kit's `sqlite_items`,
+//! which has nothing of a database: its `Boxed` is seen as the value in it and its `Items` as a list, both over the global
+//! allocator, as such types need.
 #![tactic(auto)]
 
 mod builtins;

@@ -5,7 +5,7 @@ use Rattle.std.specs.List.{count_by}
 use Rattle.std.proofs.lemmas.Bool.{and_parts, and_from, or_right, false≢true}
 use Rattle.std.proofs.lemmas.List.{take-append-drop, length-take-le, take_at}
 use Rattle.thin_form.specs.Places.{Place, First, Second, Between, Definition, Body, AfterBody, AfterAlone, Last, Past, IsShared, Fits, first, second, decorator, main, definition, body, next_body, next_decorator, next_main, alone, decorator_behind, main_behind, last, Leads, none, then_fits, place_after, IsStuck}
-use Rattle.py_tree.proofs.Breaks.{are_unbroken, cut_once}
+use Rattle.py_tree.proofs.Breaks.{agree}
 use Rattle.thin_form.proofs.Leads.{after_alone, body_is, count-append, leads-append, leads_once, leads_parts, leads_unbroken, one_fits, only_alone}
 use Rattle.thin_form.proofs.Parts.{cell_from, cell_parts, line_before}
 use Rattle.thin_form.proofs.Stops.{leads_cell}
@@ -14,29 +14,6 @@ use Rattle.form_meaning.specs.Thin.{Elements, IsForm, is_line, stands_alone, is_
 use Rattle.py_tree.specs.TextLines.{text_of}
 use Rattle.py_tree.specs.Trees.{Head, literal, value, stmt, Stmts, end, then_comes, Cell}
 use Rattle.py_tree.specs.declared.token.TokenKind.TheVariants as kind
-
--- ---- one text, two lists of lines
-
--- The longer of two lists of lines goes on from the shorter one.
-record IsFurther (short long : List (List ℕ)) (a b : List ℕ) : Type 0 where
-  more : List (List ℕ)
-  parts : long ≡ short ++ more
-  left : a ≡ text_of more ++ b
-
--- two lists of lines with which the same bytes begin agree as far as both go
-agree : (xs ys : List (List ℕ)) (a b : List ℕ) → IsTrue (are_unbroken xs) → IsTrue (are_unbroken ys) → length xs ≤ length ys → text_of xs ++ a ≡ text_of ys ++ b → IsFurther xs ys a b
-agree [] ys a b p q n e = record { more = ys; parts = refl; left = e }
-agree (x ∷ xs) [] a b p q n e = absurd (omega arith)
-agree (x ∷ xs) (y ∷ ys) a b p q n e =
-    let v = and_parts _ _ p in
-    let w = and_parts _ _ q in
-    let cut = cut_once x y (text_of xs ++ a) (text_of ys ++ b) v.0 w.0 (simp append_assoc at e) in
-    let further = agree xs ys a b v.1 w.1 (omega arith) cut.1 in
-    record {
-      more = further.more;
-      parts = ap (λ (l : List (List ℕ)). y ∷ l) further.parts ∙ ap (λ (l : List ℕ). l ∷ (xs ++ further.more)) (sym cut.0);
-      left = further.left;
-    }
 
 -- ---- how a file goes on
 

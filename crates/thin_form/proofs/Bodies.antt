@@ -1,10 +1,11 @@
 -- A body that is read line by line.
 use Rattle.std.proofs.Common.{◌≡◌, ℕ, ◌+◌, ◌<◌, ◌≤◌, Bool, true, false, cond, not, IsTrue, List, [], ◌∷◌, ◌++◌, length, ◌⊎◌, inl, inr, refl, sym, ap, ◌∙◌, append_assoc, add-zero, arith, subst}
 use Rattle.std.proofs.lemmas.Bool.{and_parts, and_from, or_right, false≢true}
-use Rattle.thin_form.specs.FileReading.{At, BeginsWith, HasBody, HasStmt, IsIndented, IsPlaced}
+use Rattle.thin_form.specs.FileParts.{At, BeginsWith, HasBody, HasStmt, IsIndented, IsPlaced}
 use Rattle.thin_form.specs.Places.{AfterAlone, AfterBody, IsApart, place_after}
 use Rattle.thin_form.proofs.Parts.{first_line, line_before, untrue, whole_parts}
-use Rattle.thin_form.proofs.Places.{past_none, past_on, text-append}
+use Rattle.py_tree.proofs.Breaks.{text-append}
+use Rattle.thin_form.proofs.Places.{past_none, past_on}
 use Rattle.form_meaning.specs.Thin.{Elements, is_line, stands_alone, is_empty, is_plain, are_lines, line_count, head_text, line_text, body_lines, is_whole}
 use Rattle.py_tree.specs.TextLines.{text_of}
 use Rattle.py_tree.specs.Trees.{Head, Stmt, stmt, Stmts, end, then_comes}

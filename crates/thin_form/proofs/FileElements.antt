@@ -153,17 +153,15 @@ chosen false x targets among = absurd (false≢true among)
 
 -- a line that makes a slider of this name
 sliders_made : (es : Elements) (x : Name) (h : Head) → IsTrue (is_line es h) → IsTrue (makes x h) → (t : Tree) × IsTrue (is_name x) × IsTrue (makes_slider t) × (h ≡ assign (x ∷ []) t)
-sliders_made es x (value t) line made = absurd (false≢true made)
-sliders_made es x import_mo line made = absurd (false≢true made)
 sliders_made es x (assign targets t) line made =
     let w = chosen (makes_slider t) x targets made in
     let n = one_name es targets t x line w.1 in
     (t, n.0, w.0, ap (λ (names : List Name). assign names t) n.1)
+sliders_made es x h line made = absurd (false≢true made)
 
 import_made : (h : Head) → IsTrue (is_import h) → h ≡ import_mo
-import_made (value t) made = absurd (false≢true made)
-import_made (assign targets t) made = absurd (false≢true made)
 import_made import_mo made = refl
+import_made h made = absurd (false≢true made)
 
 -- what the cells say, the lines of their file say
 pub are_elements : (fs : Elements) (nb : List Cell) → IsTrue (are_cells fs 3 nb) → AreElements (text_of (file_lines nb)) (elements_of nb)

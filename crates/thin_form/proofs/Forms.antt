@@ -27,14 +27,11 @@ pub record IsValue (es : Elements) (t : Tree) : Type 0 where
   pub known : es.is_slider slider ≡ true
 
 pub value_form : (es : Elements) (base : Tree) (x : Name) → is_term es (attribute base x) ≡ true → IsValue es (attribute base x)
-value_form es (literal token) x h = absurd (cc)
 value_form es (name y) x h =
     let s = and_parts _ _ h in
     let known = and_parts (is_name y) _ s.0 in
     record { slider = y; is = ap (attribute (name y)) (same_bytes x (codes "value") s.1); named = known.0; known = known.1 }
-value_form es (sum a b) x h = absurd (cc)
-value_form es (attribute base y) x h = absurd (cc)
-value_form es (call f args) x h = absurd (cc)
+value_form es t x h = absurd (cc)
 
 literal_form : (k : TokenKind) (w : List ℕ) → is_literal k w ≡ true → (literal (record { kind = k; spelling = w }) ≡ numeral w) × (is_number w ≡ true)
 literal_form kind.Name w h = absurd (cc)
@@ -51,10 +48,7 @@ number_form : (t : Tree) → is_number_tree t ≡ true → IsNumeral t
 number_form (literal token) h =
     let s = literal_form token.kind token.spelling h in
     record { spelling = token.spelling; is = s.0; number = s.1 }
-number_form (name x) h = absurd (cc)
-number_form (sum a b) h = absurd (cc)
-number_form (attribute base x) h = absurd (cc)
-number_form (call f args) h = absurd (cc)
+number_form t h = absurd (cc)
 
 -- two numbers in order
 record AreBounds (ts : Trees) : Type 0 where
@@ -64,8 +58,6 @@ record AreBounds (ts : Trees) : Type 0 where
 
 bounds_form : (ts : Trees) → thin.are_bounds ts ≡ true → AreBounds ts
 unfolding are_bounds
-bounds_form none h = absurd (cc)
-bounds_form (more a none) h = absurd (cc)
 bounds_form (more a (more b none)) h =
     let s = and_parts _ _ h in
     let both = and_parts _ _ s.0 in
@@ -78,33 +70,24 @@ bounds_form (more a (more b none)) h =
       is = ap (λ t. more t (more b none)) low.is ∙ ap (λ t. more (numeral low.spelling) (more t none)) high.is;
       ordered = and_from _ _ (and_from _ _ low.number high.number) (sym (order ∙ end) ∙ s.1);
     }
-bounds_form (more a (more b (more c rest))) h = absurd (cc)
+bounds_form ts h = absurd (cc)
 
 mo_form : (t : Tree) → is_mo t ≡ true → t ≡ name (codes "mo")
-mo_form (literal token) h = absurd (cc)
 mo_form (name y) h = ap name (same_bytes y (codes "mo") h)
-mo_form (sum a b) h = absurd (cc)
-mo_form (attribute base y) h = absurd (cc)
-mo_form (call f args) h = absurd (cc)
+mo_form t h = absurd (cc)
 
 mo_ui_form : (t : Tree) → is_mo_ui t ≡ true → t ≡ attribute (name (codes "mo")) (codes "ui")
-mo_ui_form (literal token) h = absurd (cc)
-mo_ui_form (name y) h = absurd (cc)
-mo_ui_form (sum a b) h = absurd (cc)
 mo_ui_form (attribute base y) h =
     let s = and_parts _ _ h in
     ap (λ t. attribute t y) (mo_form base s.0) ∙ ap (attribute (name (codes "mo"))) (same_bytes y (codes "ui") s.1)
-mo_ui_form (call f args) h = absurd (cc)
+mo_ui_form t h = absurd (cc)
 
 maker_form : (t : Tree) → is_maker t ≡ true → t ≡ maker
-maker_form (literal token) h = absurd (cc)
-maker_form (name y) h = absurd (cc)
-maker_form (sum a b) h = absurd (cc)
 maker_form (attribute base y) h =
     let s = and_parts _ _ h in
     ap (λ t. attribute t y) (mo_ui_form base s.0)
     ∙ ap (attribute (attribute (name (codes "mo")) (codes "ui"))) (same_bytes y (codes "slider") s.1)
-maker_form (call f args) h = absurd (cc)
+maker_form t h = absurd (cc)
 
 -- a slider with its bounds
 pub record IsSlider (t : Tree) : Type 0 where
@@ -113,14 +96,11 @@ pub record IsSlider (t : Tree) : Type 0 where
   pub ordered : are_bounds bounds.low bounds.high ≡ true
 
 pub slider_form : (t : Tree) → makes_slider t ≡ true → IsSlider t
-slider_form (literal token) h = absurd (cc)
-slider_form (name y) h = absurd (cc)
-slider_form (sum a b) h = absurd (cc)
-slider_form (attribute base y) h = absurd (cc)
 slider_form (call f args) h =
     let s = and_parts _ _ h in
     let two = bounds_form args s.1 in
     record { bounds = two.bounds; is = ap (λ t. call t args) (maker_form f s.0) ∙ ap (call maker) two.is; ordered = two.ordered }
+slider_form t h = absurd (cc)
 
 -- and back: bounds in order make a slider
 pub slider_made : (b : Bounds) → are_bounds b.low b.high ≡ true → makes_slider (slider b) ≡ true

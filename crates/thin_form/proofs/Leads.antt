@@ -5,7 +5,7 @@ use Rattle.std.specs.Str.{bytes_eq}
 use Rattle.std.proofs.lemmas.Bool.{and_from, false≢true}
 use Rattle.std.proofs.lemmas.List.Sums.{sum_by-append}
 use Rattle.std.proofs.lemmas.Slice.Eq.{bytes_eq-Decides}
-use Rattle.thin_form.specs.FileReading.{BeginsWith}
+use Rattle.thin_form.specs.FileParts.{BeginsWith}
 use Rattle.py_tree.specs.TextLines.{is_unbroken}
 use Rattle.thin_form.specs.Places.{Place, AfterAlone, IsBody, IsShared, Fits, first, second, decorator, main, definition, body, next_body, next_decorator, next_main, alone, decorator_behind, main_behind, last, Leads, none, then_fits}
 use Rattle.py_tree.proofs.Breaks.{are_unbroken}

@@ -39,8 +39,7 @@ assigned_read es text x t n r e = rw (e, target-assign x (spellings t) (some_wor
 
 some_line_words : (h : Head) → 0 < length (head_spellings h)
 some_line_words (value t) = some_words t
-some_line_words (assign targets t) = omega arith
-some_line_words import_mo = omega arith
+some_line_words h = omega arith
 
 pub line_split : (es : Elements) (h : Head) → is_line es h ≡ true → words (head_text h) ≡ head_spellings h
 line_split es h e = ap words (sym (head_joined h)) ∙ words-join (head_spellings h) (some_line_words h) (line_words es h e)

@@ -8,7 +8,7 @@ use Rattle.thin_form.specs.Places.{Place, First, Fits, Leads}
 use Rattle.thin_form.proofs.Beginnings.{alone_last, take_leads}
 use Rattle.thin_form.proofs.FileElements.{one_elements}
 use Rattle.thin_form.proofs.Leads.{leads_parts, opened}
-use Rattle.thin_form.proofs.Places.{text-append}
+use Rattle.py_tree.proofs.Breaks.{text-append}
 use Rattle.thin_form.proofs.Stops.{alone_only}
 use Rattle.form_meaning.specs.Fails.{is_body_line, IsAlone, IsFormless, LinesFit, FailsAt}
 use Rattle.form_meaning.specs.Thin.{Elements, decorator_line, main_line, file_lines}

@@ -5,33 +5,13 @@ use Rattle.std.proofs.lemmas.Bool.{and_parts, and_from}
 use Rattle.std.proofs.lemmas.List.{append_cancel_left}
 use Rattle.std.proofs.lemmas.List.Folds.{list_all-append}
 use Rattle.py_tree.specs.TextLines.{is_unbroken, text_of}
-use Rattle.py_tree.proofs.Breaks.{are_unbroken, cut_once}
+use Rattle.py_tree.proofs.Breaks.{are_unbroken, cut_once, lines_once}
 use Rattle.thin_form.proofs.OneLine.{line_one, line_unbroken}
 use Rattle.thin_form.proofs.Parts.{cell_parts, first_line}
 use Rattle.form_meaning.specs.Thin.{Elements, IsForm, elements_of, are_lines, are_cells, are_thin, line_count, line_text, body_lines, cell_lines, decorator_line, definition_line, header, footer, file_lines}
 use Rattle.py_tree.specs.Trees.{Head, stmt, Stmts, end, then_comes, Cell}
 
--- ---- the lines of a text
-
--- the first line, and what comes after it
-line_first : (x : List ℕ) (xs : List (List ℕ)) → text_of (x ∷ xs) ≡ x ++ 10 ∷ text_of xs
-line_first x xs = append_assoc x (10 ∷ []) (text_of xs)
-
--- no text with a line is empty
-some_text : (x : List ℕ) (xs : List (List ℕ)) → [] ≡ x ++ 10 ∷ text_of xs → ⊥
-some_text [] xs e = cc
-some_text (b ∷ bs) xs e = cc
-
--- a text has its lines once
-lines_once : (xs ys : List (List ℕ)) → IsTrue (are_unbroken xs) → IsTrue (are_unbroken ys) → text_of xs ≡ text_of ys → xs ≡ ys
-lines_once [] [] p q e = refl
-lines_once [] (y ∷ ys) p q e = absurd (some_text y ys (e ∙ line_first y ys))
-lines_once (x ∷ xs) [] p q e = absurd (some_text x xs (sym e ∙ line_first x xs))
-lines_once (x ∷ xs) (y ∷ ys) p q e =
-    let v = and_parts _ _ p in
-    let w = and_parts _ _ q in
-    let cut = cut_once x y (text_of xs) (text_of ys) v.0 w.0 (sym (line_first x xs) ∙ (e ∙ line_first y ys)) in
-    ap (λ l. l ∷ xs) cut.0 ∙ ap (λ ls. y ∷ ls) (lines_once xs ys v.1 w.1 cut.1)
+-- ---- the lines of a file
 
 both_unbroken : (xs ys : List (List ℕ)) → IsTrue (are_unbroken xs) → IsTrue (are_unbroken ys) → IsTrue (are_unbroken (xs ++ ys))
 both_unbroken xs ys p q = list_all-append is_unbroken xs ys ∙ and_from _ _ p q

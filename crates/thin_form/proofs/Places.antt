@@ -1,11 +1,8 @@
 -- Lines after lines.
 use Rattle.std.proofs.Common.{◌≡◌, ℕ, ◌+◌, List, [], ◌∷◌, ◌++◌, refl, sym, ap, ◌∙◌, append_assoc, length-append, arith}
-use Rattle.std.proofs.lemmas.List.Concat.{flat_map-append}
-use Rattle.thin_form.specs.FileReading.{At, IsPast}
+use Rattle.thin_form.specs.FileParts.{At, IsPast}
 use Rattle.py_tree.specs.TextLines.{text_of}
-
-pub text-append : (xs ys : List (List ℕ)) → text_of (xs ++ ys) ≡ text_of xs ++ text_of ys
-text-append xs ys = flat_map-append (λ (l : List ℕ). l ++ 10 ∷ []) xs ys
+use Rattle.py_tree.proofs.Breaks.{text-append}
 
 pub past_none : (a : At) → IsPast a a [] 0
 past_none a = record { bytes = refl; line = omega arith; room = omega arith }

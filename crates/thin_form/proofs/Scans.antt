@@ -4,7 +4,7 @@ use Rattle.std.specs.Prelude.{codes}
 use Rattle.std.specs.Str.{bytes_eq}
 use Rattle.std.proofs.lemmas.Option.{same_Some}
 use Rattle.std.proofs.lemmas.Slice.Eq.{bytes_eq-Decides}
-use Rattle.thin_form.specs.Elements.{Known, as_elements, unknown, is_just, Learns}
+use Rattle.thin_form.specs.SliderNames.{Known, as_elements, unknown, is_just, Learns}
 use Rattle.py_tree.specs.TextLines.{is_unbroken}
 use Rattle.thin_form.specs.Sliders.{slider_in}
 use Rattle.form_meaning.specs.Fails.{HasLine, HasSlider, AreElements}

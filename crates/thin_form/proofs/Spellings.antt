@@ -7,17 +7,13 @@ use Rattle.py_tree.specs.Trees.{Tree, literal, name, sum, attribute, call, Trees
 
 -- the words of a call, of which one with two arguments has two
 abbrev pub call_words : Tree → Trees → List (List ℕ)
-call_words f none = tree_text (call f none) ∷ []
-call_words f (more a none) = tree_text (call f (more a none)) ∷ []
 call_words f (more a (more b none)) = (tree_text f ++ codes "(" ++ tree_text a ++ codes ",") ∷ (tree_text b ++ codes ")") ∷ []
-call_words f (more a (more b (more c rest))) = tree_text (call f (more a (more b (more c rest)))) ∷ []
+call_words f args = tree_text (call f args) ∷ []
 
 abbrev pub spellings : Tree → List (List ℕ)
-spellings (literal token) = token.spelling ∷ []
-spellings (name x) = x ∷ []
 spellings (sum a b) = spellings a ++ (codes "+" ∷ tree_text b ∷ [])
-spellings (attribute base x) = tree_text (attribute base x) ∷ []
 spellings (call f args) = call_words f args
+spellings t = tree_text t ∷ []
 
 abbrev pub head_spellings : Head → List (List ℕ)
 head_spellings (value t) = spellings t
@@ -25,17 +21,13 @@ head_spellings (assign targets t) = names_text targets ∷ codes "=" ∷ spellin
 head_spellings import_mo = codes "import" ∷ codes "marimo" ∷ codes "as" ∷ codes "mo" ∷ []
 
 some_call_words : (f : Tree) (args : Trees) → 0 < length (call_words f args)
-some_call_words f none = omega arith
-some_call_words f (more a none) = omega arith
 some_call_words f (more a (more b none)) = omega arith
-some_call_words f (more a (more b (more c rest))) = omega arith
+some_call_words f args = omega arith
 
 pub some_words : (t : Tree) → 0 < length (spellings t)
-some_words (literal token) = omega arith
-some_words (name x) = omega arith
 some_words (sum a b) = rw length-append (omega arith)
-some_words (attribute base x) = omega arith
 some_words (call f args) = some_call_words f args
+some_words t = omega arith
 
 -- words with one term more
 join_term : (ws : List (List ℕ)) (v : List ℕ) → 0 < length ws → join_with_byte 32 (ws ++ (codes "+" ∷ v ∷ [])) ≡ join_with_byte 32 ws ++ codes " + " ++ v
@@ -50,21 +42,17 @@ join_assigned x [] l = absurd (omega arith)
 join_assigned x (w ∷ ws) l = sym (append_assoc x (codes " = ") (join_with_byte 32 (w ∷ ws)))
 
 call_joined : (f : Tree) (args : Trees) → join_with_byte 32 (call_words f args) ≡ tree_text (call f args)
-call_joined f none = refl
-call_joined f (more a none) = refl
 call_joined f (more a (more b none)) = simp append_assoc
-call_joined f (more a (more b (more c rest))) = refl
+call_joined f args = refl
 
 -- the words with one space between them are the text
 pub tree_joined : (t : Tree) → join_with_byte 32 (spellings t) ≡ tree_text t
-tree_joined (literal token) = refl
-tree_joined (name x) = refl
 tree_joined (sum a b) = join_term (spellings a) (tree_text b) (some_words a) ∙ ap (λ t. t ++ codes " + " ++ tree_text b) (tree_joined a)
-tree_joined (attribute base x) = refl
 tree_joined (call f args) = call_joined f args
+tree_joined t = refl
 
 pub head_joined : (h : Head) → join_with_byte 32 (head_spellings h) ≡ head_text h
 head_joined (value t) = tree_joined t
 head_joined (assign targets t) =
     join_assigned (names_text targets) (spellings t) (some_words t) ∙ ap (λ s. names_text targets ++ codes " = " ++ s) (tree_joined t)
-head_joined import_mo = refl
+head_joined h = refl

@@ -4,14 +4,14 @@ use Rattle.std.specs.Prelude.{flat_map}
 use Rattle.std.specs.List.{count_by}
 use Rattle.std.proofs.lemmas.Bool.{and_parts, not-true, false≢true}
 use Rattle.std.proofs.lemmas.List.Concat.{flat_map-append}
-use Rattle.thin_form.specs.FileReading.{At, HasBody, HasCell, HasCells, IsIndented, IsPast}
+use Rattle.thin_form.specs.FileParts.{At, HasBody, HasCell, HasCells, IsIndented, IsPast}
 use Rattle.thin_form.specs.Places.{Place, First, Second, Between, Definition, Body, AfterBody, AfterAlone, Last, Past, IsBody, IsNoNext, IsShared, Fits, first, second, decorator, main, definition, body, next_body, next_decorator, next_main, alone, decorator_behind, main_behind, last, Leads, none, then_fits, IsApart, IsBetween, place_after, IsStuck, StopsAt}
 use Rattle.thin_form.specs.declared.thin_file.ThinFault.{ThinFault}
 use Rattle.thin_form.specs.declared.thin_file.ThinFault.TheVariants.{Thin, Memory}
 use Rattle.thin_form.proofs.Bodies.{IsKept}
 use Rattle.thin_form.proofs.Leads.{alone_body, count-append, leads-append, leads-one, line_is_body, shared_body}
 use Rattle.thin_form.proofs.Parts.{cell_parts, first_line, whole_parts}
-use Rattle.thin_form.proofs.Places.{text-append}
+use Rattle.py_tree.proofs.Breaks.{text-append}
 use Rattle.thin_form.proofs.WholeCells.{bodies, bodies-cons}
 use Rattle.form_meaning.specs.Fails.{is_body_line, IsAlone}
 use Rattle.form_meaning.specs.Thin.{Elements, is_line, stands_alone, is_empty, is_plain, are_lines, line_count, is_cell, are_cells, body_lines, cell_lines, line_text, import_line, app_line, decorator_line, definition_line, main_line, last_line, is_whole}

@@ -21,18 +21,13 @@ pub record TermOf (es : Elements) (word : List ℕ) (t : Tree) : Type 0 where
   pub spelled : spellings t ≡ word ∷ []
 
 pub term_is_chain : (es : Elements) (t : Tree) → is_term es t ≡ true → is_chain es t ≡ true
-term_is_chain es (literal token) h = h
-term_is_chain es (name x) h = h
 term_is_chain es (sum a b) h = absurd (cc)
-term_is_chain es (attribute base x) h = h
-term_is_chain es (call f args) h = absurd (cc)
+term_is_chain es t h = h
 
 pub spellings-term : (es : Elements) (t : Tree) → is_term es t ≡ true → spellings t ≡ tree_text t ∷ []
-spellings-term es (literal token) h = refl
-spellings-term es (name x) h = refl
 spellings-term es (sum a b) h = absurd (cc)
-spellings-term es (attribute base x) h = refl
 spellings-term es (call f args) h = absurd (cc)
+spellings-term es t h = refl
 
 value_found : (es : Elements) (word : List ℕ) (t : Tree) → read_value es word ≡ Some t → TermOf es word t
 value_found es word t e =

@@ -59,12 +59,11 @@ term_read es (literal token) h = literal_read es token.kind token.spelling h
 term_read es (name x) h =
     let s = and_parts (is_name x) _ h in
     rw (s.0, not-true _ s.1) refl
-term_read es (sum a b) h = absurd (cc)
 term_read es (attribute base x) h =
     let v = value_form es base x h in
     let text : tree_text (attribute base x) ≡ v.slider ++ codes ".value" = ap tree_text v.is ∙ append_assoc v.slider (codes ".") (codes "value") in
     ap (read_term es) text ∙ (value_read es v.slider v.named v.known ∙ ap Some (sym v.is))
-term_read es (call f args) h = absurd (cc)
+term_read es t h = absurd (cc)
 
 -- one more term
 more_read : (es : Elements) (t u : Tree) (word : List ℕ) (rest : List (List ℕ)) → terms t < 32 → read_term es word ≡ Some u → read_more es t (codes "+" ∷ word ∷ rest) ≡ read_more es (sum t u) rest
@@ -75,14 +74,12 @@ first_read es t rest h = rw (term_read es t h) refl
 
 -- reading a chain comes to what follows it
 chain_read : (es : Elements) (t : Tree) (rest : List (List ℕ)) → is_chain es t ≡ true → terms t ≤ 32 → read_sum es (spellings t ++ rest) ≡ read_more es t rest
-chain_read es (literal token) rest c n = first_read es (literal token) rest c
-chain_read es (name x) rest c n = first_read es (name x) rest c
 chain_read es (sum a b) rest c n =
     let s = and_parts _ _ c in
     ap (read_sum es) (spellings-more a b rest)
     ∙ (chain_read es a (codes "+" ∷ tree_text b ∷ rest) s.0 (omega arith) ∙ more_read es a b (tree_text b) rest (omega arith) (term_read es b s.1))
-chain_read es (attribute base x) rest c n = first_read es (attribute base x) rest c
 chain_read es (call f args) rest c n = absurd (cc)
+chain_read es t rest c n = first_read es t rest c
 
 pub sum_read : (es : Elements) (t : Tree) → is_sum es t ≡ true → read_sum es (spellings t) ≡ Some t
 sum_read es t h =
@@ -91,19 +88,13 @@ sum_read es t h =
 
 -- a chain with a `+` behind it is no assignment
 no_target : (es : Elements) (t : Tree) (rest : List (List ℕ)) → is_chain es t ≡ true → target (spellings t ++ (codes "+" ∷ rest)) ≡ None
-no_target es (literal token) [] c = refl
-no_target es (literal token) (next ∷ rest) c = refl
-no_target es (name x) [] c = refl
-no_target es (name x) (next ∷ rest) c = refl
 no_target es (sum a b) rest c =
     ap target (spellings-more a b (codes "+" ∷ rest)) ∙ no_target es a (tree_text b ∷ codes "+" ∷ rest) (and_parts _ _ c).0
-no_target es (attribute base x) [] c = refl
-no_target es (attribute base x) (next ∷ rest) c = refl
 no_target es (call f args) rest c = absurd (cc)
+no_target es t [] c = refl
+no_target es t (next ∷ rest) c = refl
 
 pub sum_no_target : (es : Elements) (t : Tree) → is_chain es t ≡ true → target (spellings t) ≡ None
-sum_no_target es (literal token) c = refl
-sum_no_target es (name x) c = refl
 sum_no_target es (sum a b) c = no_target es a (tree_text b ∷ []) (and_parts _ _ c).0
-sum_no_target es (attribute base x) c = refl
 sum_no_target es (call f args) c = absurd (cc)
+sum_no_target es t c = refl

@@ -3,12 +3,13 @@ use Rattle.std.proofs.Common.{◌≡◌, ℕ, ◌+◌, ◌<◌, ◌≤◌, not, 
 use Rattle.std.specs.Prelude.{flat_map, sum_by}
 use Rattle.std.proofs.lemmas.Bool.{and_parts, and_from, false≢true}
 use Rattle.std.proofs.lemmas.List.{append_cancel_left}
-use Rattle.thin_form.specs.FileReading.{At, BeginsWith, HasBody, HasCell, HasCells, IsPast}
+use Rattle.thin_form.specs.FileParts.{At, BeginsWith, HasBody, HasCell, HasCells, IsPast}
 use Rattle.std.proofs.lemmas.List.Concat.{flat_map-append}
 use Rattle.std.proofs.lemmas.List.Sums.{sum_by-append}
 use Rattle.thin_form.proofs.Bodies.{length-lines}
 use Rattle.thin_form.proofs.Parts.{cell_from, cell_parts}
-use Rattle.thin_form.proofs.Places.{past_none, past_on, text-append}
+use Rattle.py_tree.proofs.Breaks.{text-append}
+use Rattle.thin_form.proofs.Places.{past_none, past_on}
 use Rattle.form_meaning.specs.Thin.{Elements, decorator_line, definition_line, is_empty, are_lines, line_count, is_cell, are_cells, body_lines, cell_lines, is_whole}
 use Rattle.py_tree.specs.TextLines.{text_of}
 use Rattle.py_tree.specs.Trees.{Stmts, end, then_comes, Cell}

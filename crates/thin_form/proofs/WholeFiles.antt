@@ -3,14 +3,15 @@ use Rattle.std.proofs.Common.{◌≡◌, ℕ, ◌≤◌, IsTrue, List, [], ◌�
 use Rattle.std.specs.Prelude.{flat_map}
 use Rattle.std.proofs.lemmas.Bool.{and_parts, and_from, leb-true, le-leb}
 use Rattle.std.proofs.lemmas.List.{append_cancel_left}
-use Rattle.thin_form.specs.FileReading.{At, BeginsWith, HasCells, IsPast}
+use Rattle.thin_form.specs.FileParts.{At, BeginsWith, HasCells, IsPast}
 use Rattle.thin_form.specs.Places.{First, IsStuck, StopsAt}
 use Rattle.thin_form.specs.Refused.{IsCauseOf}
 use Rattle.thin_form.specs.declared.thin_file.ThinFault.{ThinFault}
 use Rattle.thin_form.specs.declared.thin_file.ThinFault.TheVariants.{Thin, Memory}
 use Rattle.thin_form.proofs.Beginnings.{stuck_fails}
 use Rattle.thin_form.proofs.FileElements.{same_elements}
-use Rattle.thin_form.proofs.Places.{past_on, text-append}
+use Rattle.py_tree.proofs.Breaks.{text-append}
+use Rattle.thin_form.proofs.Places.{past_on}
 use Rattle.thin_form.proofs.WholeCells.{bodies}
 use Rattle.form_meaning.specs.Fails.{AreElements}
 use Rattle.form_meaning.specs.Thin.{Elements, IsForm, elements_of, are_cells, cell_lines, import_line, app_line, main_line, last_line, header, footer, file_lines}

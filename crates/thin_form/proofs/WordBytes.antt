@@ -53,22 +53,19 @@ both xs ys h k = list_all-append is_word_byte xs ys ∙ and_from _ _ h k
 term_is_word : (es : Elements) (t : Tree) → is_term es t ≡ true → IsWord (tree_text t)
 term_is_word es (literal token) h = literal_is_word token.kind token.spelling h
 term_is_word es (name x) h = name_is_word x (and_parts _ _ h).0
-term_is_word es (sum a b) h = absurd (cc)
 term_is_word es (attribute base x) h =
     let v = value_form es base x h in
     let text : tree_text (attribute base x) ≡ v.slider ++ codes ".value" = ap tree_text v.is ∙ append_assoc v.slider (codes ".") (codes "value") in
     subst IsWord (sym text) (both v.slider (codes ".value") (name_is_word v.slider v.named) refl)
-term_is_word es (call f args) h = absurd (cc)
+term_is_word es t h = absurd (cc)
 
 chain_words : (es : Elements) (t : Tree) → is_chain es t ≡ true → AreWords (spellings t)
-chain_words es (literal token) h = and_from _ _ (term_is_word es (literal token) h) refl
-chain_words es (name x) h = and_from _ _ (term_is_word es (name x) h) refl
 chain_words es (sum a b) h =
     let s = and_parts _ _ h in
     list_all-append (λ w. list_all is_word_byte w) (spellings a) (codes "+" ∷ tree_text b ∷ [])
     ∙ and_from _ _ (chain_words es a s.0) (and_from _ _ (term_is_word es b s.1) refl)
-chain_words es (attribute base x) h = and_from _ _ (term_is_word es (attribute base x) h) refl
 chain_words es (call f args) h = absurd (cc)
+chain_words es t h = and_from _ _ (term_is_word es t h) refl
 
 bounds_words : (b : Bounds) → are_bounds b.low b.high ≡ true → AreWords (spellings (slider b))
 unfolding are_bounds

@@ -1,9 +1,9 @@
 pub mod Choices
-pub mod Elements
-pub mod FileReading
+pub mod FileParts
 pub mod Lines
 pub mod Places
 pub mod Refused
+pub mod SliderNames
 pub mod Sliders
 pub mod Sums
 pub mod Words

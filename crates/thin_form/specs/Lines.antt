@@ -1,5 +1,5 @@
 -- The line that a text spells.
-use Rattle.std.specs.Prelude.{ℕ, Bool, true, false, cond, ◌&&◌, List, [], ◌∷◌, Option, None, Some, option_map, codes}
+use Rattle.std.specs.Prelude.{ℕ, Bool, true, false, if◌then◌else◌, ◌&&◌, List, [], ◌∷◌, Option, None, Some, option_map, codes}
 use Rattle.std.specs.Str.{bytes_eq}
 use Rattle.thin_form.specs.Choices.{choose}
 use Rattle.thin_form.specs.Sliders.{read_bounds, slider}
@@ -11,13 +11,13 @@ use Rattle.py_tree.specs.Trees.{Tree, literal, name, sum, attribute, call, Head,
 
 -- what a name is assigned: a slider where it is the name of one, else a sum
 abbrev pub read_assigned : Elements → Name → List (List ℕ) → Option Tree
-read_assigned es x line = cond (es.is_slider x) (cond es.imported (option_map slider (read_bounds line)) None) (read_sum es line)
+read_assigned es x line = if es.is_slider x then (if es.imported then option_map slider (read_bounds line) else None) else read_sum es line
 
 abbrev pub read_assignment : Elements → Name → List (List ℕ) → Option Head
-read_assignment es x line = cond (is_name x) (option_map (assign (x ∷ [])) (read_assigned es x line)) None
+read_assignment es x line = if is_name x then option_map (assign (x ∷ [])) (read_assigned es x line) else None
 
 abbrev pub read_import : Elements → List ℕ → Option Head
-read_import es text = cond (bytes_eq text (codes "import marimo as mo") && es.imported) (Some import_mo) None
+read_import es text = if bytes_eq text (codes "import marimo as mo") && es.imported then Some import_mo else None
 
 abbrev pub read_line : Elements → List ℕ → Option Head
 read_line es text =
@@ -25,8 +25,5 @@ read_line es text =
 
 -- the tree is a call
 abbrev pub is_call : Tree → Bool
-is_call (literal token) = false
-is_call (name x) = false
-is_call (sum a b) = false
-is_call (attribute base x) = false
 is_call (call callee args) = true
+is_call t = false

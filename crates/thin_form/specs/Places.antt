@@ -1,11 +1,11 @@
 -- A file of the thin form as its lines go by.
-use Rattle.std.specs.Prelude.{◌≡◌, ◌⊎◌, ℕ, ◌+◌, ◌≤◌, not, cond, IsTrue, List, [], ◌∷◌, ◌++◌, length}
+use Rattle.std.specs.Prelude.{◌≡◌, ◌⊎◌, ℕ, ◌+◌, ◌≤◌, not, if◌then◌else◌, IsTrue, List, [], ◌∷◌, ◌++◌, length}
 use Rattle.std.specs.List.{count_by}
 use Rattle.form_meaning.specs.Fails.{is_body_line, IsAlone}
 use Rattle.form_meaning.specs.Thin.{Elements, is_line, stands_alone, line_text, import_line, app_line, decorator_line, definition_line, main_line, last_line}
 use Rattle.py_tree.specs.TextLines.{text_of}
 use Rattle.py_tree.specs.Trees.{Head, stmt, Stmts, end, then_comes}
-use Rattle.thin_form.specs.FileReading.{At, IsIndented}
+use Rattle.thin_form.specs.FileParts.{At, IsIndented}
 use Rattle.thin_form.specs.declared.thin_file.ThinFault.{ThinFault}
 use Rattle.thin_form.specs.declared.thin_file.ThinFault.TheVariants.{Thin, Memory}
 
@@ -71,7 +71,7 @@ pub record IsBetween (es : Elements) (at : Place) (bytes : List ℕ) : Type 0 wh
 -- the place after the lines of a body
 abbrev pub place_after : Stmts → Place
 place_after end = Body
-place_after (then_comes (stmt n head block) rest) = cond (stands_alone head) AfterAlone AfterBody
+place_after (then_comes (stmt n head block) rest) = if stands_alone head then AfterAlone else AfterBody
 
 -- Lines lead past cells, and no further cell comes.
 abbrev pub LeadsPastCells : Elements → List (List ℕ) → List ℕ → Type 0

@@ -1,5 +1,5 @@
 -- The slider that words spell.
-use Rattle.std.specs.Prelude.{ℕ, Bool, cond, ◌&&◌, nat_le, List, Option, None, Some, codes}
+use Rattle.std.specs.Prelude.{ℕ, Bool, if◌then◌else◌, ◌&&◌, nat_le, List, Option, None, Some, codes}
 use Rattle.thin_form.specs.Choices.{◌>>=◌}
 use Rattle.thin_form.specs.Sums.{numeral}
 use Rattle.thin_form.specs.Words.{words, two_words, target, without_front, without_back}
@@ -28,14 +28,14 @@ are_bounds low high = is_number low && is_number high && nat_le (number_of low) 
 abbrev pub bounds_in : (first second : List ℕ) → Option Bounds
 bounds_in first second =
     without_front (codes "mo.ui.slider(") first >>= λ rest. without_back (codes ",") rest >>= λ low. without_back (codes ")") second >>= λ high.
-    cond (are_bounds low high) (Some (record { low = low; high = high })) None
+    if are_bounds low high then Some (record { low = low; high = high }) else None
 
 abbrev pub read_bounds : List (List ℕ) → Option Bounds
 read_bounds line = two_words line >>= λ p. bounds_in p.0 p.1
 
 -- the name to which a line's text assigns a slider
 abbrev pub slider_name : List ℕ → Option Name
-slider_name text = target (words text) >>= λ p. cond (is_name p.0) (read_bounds p.1 >>= λ b. Some p.0) None
+slider_name text = target (words text) >>= λ p. if is_name p.0 then (read_bounds p.1 >>= λ b. Some p.0) else None
 
 -- the same of a whole line, with its indent
 abbrev pub slider_in : List ℕ → Option Name

@@ -1,5 +1,5 @@
 -- The sum that words spell, by reading from the left.
-use Rattle.std.specs.Prelude.{ℕ, cond, ◌&&◌, nat_lt, List, [], ◌∷◌, Option, None, Some, codes}
+use Rattle.std.specs.Prelude.{ℕ, if◌then◌else◌, ◌&&◌, nat_lt, List, [], ◌∷◌, Option, None, Some, codes}
 use Rattle.std.specs.Str.{bytes_eq}
 use Rattle.thin_form.specs.Choices.{◌>>=◌}
 use Rattle.thin_form.specs.Words.{without_back}
@@ -17,25 +17,25 @@ abbrev pub value_of : Name → Tree
 value_of x = attribute (name x) (codes "value")
 
 abbrev pub read_value : Elements → List ℕ → Option Tree
-read_value es word = without_back (codes ".value") word >>= λ x. cond (is_name x && es.is_slider x) (Some (value_of x)) None
+read_value es word = without_back (codes ".value") word >>= λ x. if is_name x && es.is_slider x then Some (value_of x) else None
 
 -- a name, a number, or `NAME.value`
 abbrev pub read_term : Elements → List ℕ → Option Tree
 read_term es word =
-    cond (is_name word) (cond (es.is_slider word) None (Some (name word))) (cond (is_number word) (Some (numeral word)) (read_value es word))
+    if is_name word then (if es.is_slider word then None else Some (name word)) else (if is_number word then Some (numeral word) else read_value es word)
 
 -- the word after a `+`, and the words after it
 abbrev pub next_term : List (List ℕ) → Option (List ℕ × List (List ℕ))
 next_term [] = None
 next_term (mark ∷ []) = None
-next_term (mark ∷ word ∷ rest) = cond (bytes_eq mark (codes "+")) (Some (word, rest)) None
+next_term (mark ∷ word ∷ rest) = if bytes_eq mark (codes "+") then Some (word, rest) else None
 
 -- the tree with the terms that follow it
 abbrev pub read_more : Elements → Tree → List (List ℕ) → Option Tree
 read_more es t [] = Some t
 read_more es t (mark ∷ []) = None
 read_more es t (mark ∷ word ∷ rest) =
-    cond (bytes_eq mark (codes "+") && nat_lt (terms t) 32) (read_term es word >>= λ u. read_more es (sum t u) rest) None
+    if bytes_eq mark (codes "+") && nat_lt (terms t) 32 then (read_term es word >>= λ u. read_more es (sum t u) rest) else None
 
 abbrev pub read_sum : Elements → List (List ℕ) → Option Tree
 read_sum es [] = None

@@ -1,5 +1,5 @@
 -- The words of a text: what stands between its spaces.
-use Rattle.std.specs.Prelude.{ℕ, ◌-◌, cond, ◌==◌, List, [], ◌∷◌, length, take, drop, Option, None, Some, codes}
+use Rattle.std.specs.Prelude.{ℕ, ◌-◌, if◌then◌else◌, ◌==◌, List, [], ◌∷◌, length, take, drop, Option, None, Some, codes}
 use Rattle.std.specs.List.{slice_split}
 use Rattle.std.specs.Str.{bytes_eq}
 
@@ -23,13 +23,13 @@ abbrev pub target : List (List ℕ) → Option (List ℕ × List (List ℕ))
 target [] = None
 target (word ∷ []) = None
 target (word ∷ mark ∷ []) = None
-target (word ∷ mark ∷ next ∷ rest) = cond (bytes_eq mark (codes "=")) (Some (word, next ∷ rest)) None
+target (word ∷ mark ∷ next ∷ rest) = if bytes_eq mark (codes "=") then Some (word, next ∷ rest) else None
 
 -- what comes after `front` in a text that begins with it
 unfoldable pub without_front : (front text : List ℕ) → Option (List ℕ)
-without_front front text = cond (bytes_eq (take (length front) text) front) (Some (drop (length front) text)) None
+without_front front text = if bytes_eq (take (length front) text) front then Some (drop (length front) text) else None
 
 -- what comes before `back` in a text that ends with it
 unfoldable pub without_back : (back text : List ℕ) → Option (List ℕ)
 without_back back text =
-    cond (bytes_eq (drop (length text - length back) text) back) (Some (take (length text - length back) text)) None
+    if bytes_eq (drop (length text - length back) text) back then Some (take (length text - length back) text) else None

@@ -1,22 +1,22 @@
 // The cells of a file of the thin form.
 ghost use Rattle.std.specs.Prelude.{◌≡◌, IsTrue, not, flat_map, Ok, None, MatchOption, IfErr, IfOk};
-ghost use Rattle.thin_form.specs.Elements.{as_elements};
-ghost use Rattle.thin_form.specs.FileReading.{BeginsWith, HasBody, HasCell, HasCells, ReadsBody, ReadsCell, ReadsCells};
+ghost use Rattle.thin_form.specs.SliderNames.{as_elements};
+ghost use Rattle.thin_form.specs.FileParts.{BeginsWith, HasBody, HasCell, HasCells, ReadsBody, ReadsCell, ReadsCells};
 ghost use Rattle.thin_form.specs.Places.{Between, Body, Definition, Fits, IsBetween, IsNoNext, LeadsPastCells, Place, StopsAt, place_after};
 ghost use Rattle.form_meaning.specs.Thin.{is_empty, decorator_line, cell_lines, is_whole};
 ghost use Rattle.py_tree.specs.View.{view_cell, view_cells, view_stmts};
 
-use crate::elements::Elements;
 use crate::reader::Reader;
+use crate::slider_names::SliderNames;
 use crate::thin_file::ThinFault;
 use py_tree::{Block, CellCode, Stmt};
 use std::alloc::Global;
 
 // Reads cells, as many as come.
-pub fn cells(
+pub fn read_cells(
     alloc: Global,
     reader: &mut Reader,
-    elements: &Elements,
+    elements: &SliderNames,
 ) -> Result<Vec<CellCode>, ThinFault>
     ensures found { IfOk result
         (λ v. HasCells (as_elements elements.now) reader.old reader.new (view_cells v.items)) }
@@ -27,17 +27,17 @@ pub fn cells(
     ensures stuck { IfErr result (λ e. StopsAt (as_elements elements.now) reader.old Between e) }
 {
     let mut cells = Vec::new(alloc);
-    while let Some(next) = cell(alloc, reader, elements)? {
+    while let Some(next) = read_cell(alloc, reader, elements)? {
         cells.push(next)?;
     }
     Ok(cells)
 }
 
 // Reads the cell that comes next. None where no decorator comes.
-fn cell(
+fn read_cell(
     alloc: Global,
     reader: &mut Reader,
-    elements: &Elements,
+    elements: &SliderNames,
 ) -> Result<Option<CellCode>, ThinFault>
     ensures found { IfOk result
         (λ o. MatchOption o (reader.new ≡ reader.old)
@@ -57,7 +57,7 @@ fn cell(
         return Ok(None);
     }
     reader.expect(b"def _():")?;
-    let body = body(alloc, reader, elements)?;
+    let body = read_body(alloc, reader, elements)?;
     Ok(Some(CellCode {
         line,
         body: Block::of(body),
@@ -65,7 +65,11 @@ fn cell(
 }
 
 // Reads a body, which has one line or more.
-fn body(alloc: Global, reader: &mut Reader, elements: &Elements) -> Result<Vec<Stmt>, ThinFault>
+fn read_body(
+    alloc: Global,
+    reader: &mut Reader,
+    elements: &SliderNames,
+) -> Result<Vec<Stmt>, ThinFault>
     ensures found { IfOk result
         (λ v. HasBody (as_elements elements.now) reader.old reader.new (view_stmts v.items)) }
     ensures some { IfOk result (λ v. IsTrue (not (is_empty (view_stmts v.items)))) }
@@ -77,7 +81,7 @@ fn body(alloc: Global, reader: &mut Reader, elements: &Elements) -> Result<Vec<S
     ensures stuck { IfErr result (λ e. StopsAt (as_elements elements.now) reader.old Body e) }
 {
     let mut stmts = Vec::new(alloc);
-    while let Some(stmt) = reader.stmt(alloc, elements, stmts.is_empty())? {
+    while let Some(stmt) = reader.read_stmt(alloc, elements, stmts.is_empty())? {
         stmts.push(stmt)?;
     }
     if stmts.is_empty() {

@@ -2,10 +2,10 @@
 #![tactic(auto)]
 
 mod cells;
-mod elements;
 pub mod laws;
 mod line;
 mod reader;
+mod slider_names;
 mod sliders;
 mod sums;
 mod thin_file;

@@ -1,6 +1,6 @@
 // Body lines.
 ghost use Rattle.std.specs.Prelude.{◌≡◌, IfOk, IfSome, IsTrue, Some, option_map};
-ghost use Rattle.thin_form.specs.Elements.{as_elements};
+ghost use Rattle.thin_form.specs.SliderNames.{as_elements};
 ghost use Rattle.thin_form.specs.Lines as reading;
 ghost use Rattle.thin_form.specs.Words.{words};
 ghost use Rattle.form_meaning.specs.Thin.{is_line, head_text};
@@ -8,44 +8,66 @@ ghost use Rattle.form_meaning.specs.Thin as thin;
 ghost use Rattle.py_tree.specs.Trees.{Head};
 ghost use Rattle.py_tree.specs.View.{view, view_head};
 
-use crate::elements::Elements;
-use py_tree::{Expr, Line, Spellings, is_name};
-use crate::sliders::bounds;
-use crate::sums::sum;
+use crate::slider_names::SliderNames;
+use crate::sliders::read_bounds;
+use crate::sums::read_sum;
 use crate::trees::{slider, spelling};
 use crate::words::target;
+use py_tree::{Expr, Line, Spellings, is_name};
 use py_value::Memory;
 use std::alloc::Global;
 use std::str;
 
-// What the name is assigned: a slider where the name is that of one, else a sum.
-fn assigned(
+/// The line that the text of a body line spells, without its indent and its `\n`; none where it spells no line of the form in a
+/// file with these elements.
+pub fn read_body_line(
     alloc: Global,
-    name: &str,
-    value: &str,
-    elements: &Elements,
-) -> Result<Option<Expr>, Memory>
-    ensures { IfOk result
-        (λ o. option_map view o
-        ≡ reading.read_assigned (as_elements elements.now) name.now (words value.now)) }
+    text: &[u8],
+    elements: &SliderNames,
+) -> Result<Option<Line>, Memory>
+    ensures found { IfOk result
+        (λ o. IfSome o
+        (λ l. IsTrue (is_line (as_elements elements.now) (view_head l))
+        × (text.now ≡ head_text (view_head l)))) }
+    ensures only { (h : Head) → IsTrue (is_line (as_elements elements.now) h)
+        → text.now ≡ head_text h → IfOk result (λ o. option_map view_head o ≡ Some h) }
 {
-    if !elements.is_slider(name) {
-        return sum(alloc, value, elements);
-    }
-    if !elements.imported() {
-        return Ok(None);
-    }
-    match bounds(value) {
-        Some((low, high)) => Ok(Some(slider(alloc, low, high)?)),
-        None => Ok(None),
+    match str::from_utf8(text) {
+        Ok(text) => read_line(alloc, text, elements),
+        Err(_) => Ok(None),
     }
 }
 
-fn assignment(
+/// Whether a line of the form is the whole body of its cell.
+pub fn stands_alone(line: &Line) -> bool
+    ensures { (es : thin.Elements) → IsTrue (is_line es (view_head line.now))
+        → result ≡ thin.stands_alone (view_head line.now) }
+{
+    match line {
+        Line::Assign(_, tree) => is_call(tree),
+        Line::ImportMo => true,
+        _ => false,
+    }
+}
+
+fn read_line(alloc: Global, text: &str, elements: &SliderNames) -> Result<Option<Line>, Memory>
+    ensures { IfOk result
+        (λ o. option_map view_head o ≡ reading.read_line (as_elements elements.now) text.now) }
+{
+    if let Some((name, value)) = target(text) {
+        return read_assignment(alloc, name, value, elements);
+    }
+    match read_sum(alloc, text, elements)? {
+        Some(tree) => Ok(Some(Line::Value(tree))),
+        None => Ok(read_import(text, elements)),
+    }
+}
+
+fn read_assignment(
     alloc: Global,
     name: &str,
     value: &str,
-    elements: &Elements,
+    elements: &SliderNames,
 ) -> Result<Option<Line>, Memory>
     ensures { IfOk result
         (λ o. option_map view_head o
@@ -54,7 +76,7 @@ fn assignment(
     if !is_name(name) {
         return Ok(None);
     }
-    let Some(value) = assigned(alloc, name, value, elements)? else {
+    let Some(value) = read_assigned(alloc, name, value, elements)? else {
         return Ok(None);
     };
     let mut targets = Vec::new(alloc);
@@ -62,8 +84,31 @@ fn assignment(
     Ok(Some(Line::Assign(Spellings::of(targets), value)))
 }
 
+// What the name is assigned: a slider where the name is that of one, else a sum.
+fn read_assigned(
+    alloc: Global,
+    name: &str,
+    value: &str,
+    elements: &SliderNames,
+) -> Result<Option<Expr>, Memory>
+    ensures { IfOk result
+        (λ o. option_map view o
+        ≡ reading.read_assigned (as_elements elements.now) name.now (words value.now)) }
+{
+    if !elements.is_slider(name) {
+        return read_sum(alloc, value, elements);
+    }
+    if !elements.imported() {
+        return Ok(None);
+    }
+    match read_bounds(value) {
+        Some((low, high)) => Ok(Some(slider(alloc, low, high)?)),
+        None => Ok(None),
+    }
+}
+
 // The import of `mo`, in a file that imports it.
-fn import(text: &str, elements: &Elements) -> Option<Line>
+fn read_import(text: &str, elements: &SliderNames) -> Option<Line>
     ensures { option_map view_head result
         ≡ reading.read_import (as_elements elements.now) text.now }
 {
@@ -74,51 +119,10 @@ fn import(text: &str, elements: &Elements) -> Option<Line>
     }
 }
 
-fn line(alloc: Global, text: &str, elements: &Elements) -> Result<Option<Line>, Memory>
-    ensures { IfOk result
-        (λ o. option_map view_head o ≡ reading.read_line (as_elements elements.now) text.now) }
-{
-    if let Some((name, value)) = target(text) {
-        return assignment(alloc, name, value, elements);
-    }
-    match sum(alloc, text, elements)? {
-        Some(tree) => Ok(Some(Line::Value(tree))),
-        None => Ok(import(text, elements)),
-    }
-}
-
-/// The line that the text of a body line spells, without its indent and its `\n`; none where it spells no line of the form in a
-/// file with these elements.
-pub fn body_line(alloc: Global, text: &[u8], elements: &Elements) -> Result<Option<Line>, Memory>
-    ensures found { IfOk result
-        (λ o. IfSome o
-        (λ l. IsTrue (is_line (as_elements elements.now) (view_head l))
-        × (text.now ≡ head_text (view_head l)))) }
-    ensures only { (h : Head) → IsTrue (is_line (as_elements elements.now) h)
-        → text.now ≡ head_text h → IfOk result (λ o. option_map view_head o ≡ Some h) }
-{
-    match str::from_utf8(text) {
-        Ok(text) => line(alloc, text, elements),
-        Err(_) => Ok(None),
-    }
-}
-
 fn is_call(tree: &Expr) -> bool
     ensures { result ≡ reading.is_call (view tree.now) }
 {
     matches!(tree, Expr::Call(_, _))
-}
-
-/// Whether a line of the form is the whole body of its cell.
-pub fn stands_alone(line: &Line) -> bool
-    ensures { (es : thin.Elements) → IsTrue (is_line es (view_head line.now))
-        → result ≡ thin.stands_alone (view_head line.now) }
-{
-    match line {
-        Line::Value(_) => false,
-        Line::Assign(_, tree) => is_call(tree),
-        Line::ImportMo => true,
-    }
 }
 
 #[cfg(test)]
@@ -130,14 +134,14 @@ mod tests {
     const SLIDERS: &[u8] =
         b"    import marimo as mo\n    s = mo.ui.slider(0, 10)\n    t = mo.ui.slider(1, 1)\n";
 
-    fn is_line(alloc: Global, text: &str, elements: &Elements) -> Result<bool, Memory> {
-        Ok(body_line(alloc, text.as_bytes(), elements)?.is_some())
+    fn is_line(alloc: Global, text: &str, elements: &SliderNames) -> Result<bool, Memory> {
+        Ok(read_body_line(alloc, text.as_bytes(), elements)?.is_some())
     }
 
     #[test]
     fn reads_an_assignment(rt: HostRuntime) -> Result<(), Fail> {
-        let none = Elements::of(rt.alloc(), b"")?;
-        let line = body_line(rt.alloc(), b"a = b + 3", &none)?;
+        let none = SliderNames::of(rt.alloc(), b"")?;
+        let line = read_body_line(rt.alloc(), b"a = b + 3", &none)?;
         let Some(Line::Assign(targets, value)) = line else {
             panic!(rt; "no assignment");
         };
@@ -153,8 +157,8 @@ mod tests {
 
     #[test]
     fn reads_a_slider(rt: HostRuntime) -> Result<(), Fail> {
-        let elements = Elements::of(rt.alloc(), SLIDERS)?;
-        let line = body_line(rt.alloc(), b"s = mo.ui.slider(2, 30)", &elements)?;
+        let elements = SliderNames::of(rt.alloc(), SLIDERS)?;
+        let line = read_body_line(rt.alloc(), b"s = mo.ui.slider(2, 30)", &elements)?;
         let Some(Line::Assign(targets, value)) = line else {
             panic!(rt; "no assignment");
         };
@@ -175,8 +179,8 @@ mod tests {
 
     #[test]
     fn reads_the_value_of_a_slider(rt: HostRuntime) -> Result<(), Fail> {
-        let elements = Elements::of(rt.alloc(), SLIDERS)?;
-        let line = body_line(rt.alloc(), b"s.value", &elements)?;
+        let elements = SliderNames::of(rt.alloc(), SLIDERS)?;
+        let line = read_body_line(rt.alloc(), b"s.value", &elements)?;
         let Some(Line::Value(Expr::Attribute(base, name))) = line else {
             panic!(rt; "no value");
         };
@@ -187,7 +191,7 @@ mod tests {
 
     #[test]
     fn tells_lines_of_the_form(rt: HostRuntime) -> Result<(), Fail> {
-        let elements = Elements::of(rt.alloc(), SLIDERS)?;
+        let elements = SliderNames::of(rt.alloc(), SLIDERS)?;
         for (text, want) in [
             ("x", true),
             ("x_1 = 0", true),
@@ -224,7 +228,7 @@ mod tests {
 
     #[test]
     fn tells_sliders(rt: HostRuntime) -> Result<(), Fail> {
-        let elements = Elements::of(rt.alloc(), SLIDERS)?;
+        let elements = SliderNames::of(rt.alloc(), SLIDERS)?;
         for (text, want) in [
             ("s = mo.ui.slider(2, 2)", true),
             ("s = mo.ui.slider(9, 10)", true),
@@ -259,7 +263,7 @@ mod tests {
 
     #[test]
     fn wants_the_import(rt: HostRuntime) -> Result<(), Fail> {
-        let elements = Elements::of(rt.alloc(), b"    s = mo.ui.slider(0, 10)\n")?;
+        let elements = SliderNames::of(rt.alloc(), b"    s = mo.ui.slider(0, 10)\n")?;
         for (text, want) in [
             ("import marimo as mo", false),
             ("s = mo.ui.slider(0, 10)", false),
@@ -272,14 +276,14 @@ mod tests {
 
     #[test]
     fn tells_lines_that_stand_alone(rt: HostRuntime) -> Result<(), Fail> {
-        let elements = Elements::of(rt.alloc(), SLIDERS)?;
+        let elements = SliderNames::of(rt.alloc(), SLIDERS)?;
         for (text, want) in [
             ("import marimo as mo", true),
             ("s = mo.ui.slider(0, 10)", true),
             ("a = s.value", false),
             ("s.value", false),
         ] {
-            let Some(line) = body_line(rt.alloc(), text.as_bytes(), &elements)? else {
+            let Some(line) = read_body_line(rt.alloc(), text.as_bytes(), &elements)? else {
                 panic!(rt; "no line");
             };
             assert_eq!(rt; stands_alone(&line), want, "at {text:?}");
@@ -289,7 +293,7 @@ mod tests {
 
     #[test]
     fn takes_32_terms(rt: HostRuntime) -> Result<(), Fail> {
-        let elements = Elements::of(rt.alloc(), SLIDERS)?;
+        let elements = SliderNames::of(rt.alloc(), SLIDERS)?;
         let mut text = String::from_str(rt.alloc(), "a")?;
         for _ in 1..32 {
             text.push_str(" + s.value")?;

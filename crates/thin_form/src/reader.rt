@@ -1,8 +1,8 @@
 // What is left of a file of the thin form.
 ghost use Rattle.std.specs.Prelude.{◌≡◌, ◌⊎◌, ℕ, ◌+◌, ◌≤◌, ◌==◌, false, cond, IsTrue, MatchBool, List, [], ◌∷◌, ◌++◌, length, codes, Ok, None, Some, MatchOption, option_map, IfErr, IfOk, IfSome, OnErr, OnOk};
 ghost use Rattle.std.specs.Option.{IfNone};
-ghost use Rattle.thin_form.specs.Elements.{as_elements};
-ghost use Rattle.thin_form.specs.FileReading.{HasStmt, IsIndented, IsPast, IsPlaced, ReadsLine};
+ghost use Rattle.thin_form.specs.SliderNames.{as_elements};
+ghost use Rattle.thin_form.specs.FileParts.{HasStmt, IsIndented, IsPast, IsPlaced, ReadsLine};
 ghost use Rattle.py_tree.specs.TextLines.{is_unbroken, text_of};
 ghost use Rattle.thin_form.specs.Places.{AfterBody, Body, IsBody, IsNoNext, StopsAt};
 ghost use Rattle.form_meaning.specs.Thin.{is_line, head_text};
@@ -10,8 +10,8 @@ ghost use Rattle.form_meaning.specs.Thin as thin;
 ghost use Rattle.py_tree.specs.Trees.{Head};
 ghost use Rattle.py_tree.specs.View.{view_head, view_stmt};
 
-use crate::elements::Elements;
-use crate::line::{body_line, stands_alone};
+use crate::line::{read_body_line, stands_alone};
+use crate::slider_names::SliderNames;
 use crate::thin_file::ThinFault;
 use py_tree::{Block, Line, Stmt, whole_line};
 use py_value::Memory;
@@ -31,7 +31,7 @@ pub struct Reader<'a> {
 
 impl<'a> Model for Reader<'a> {
     ghost use Rattle.std.specs.Prelude.{◌+◌, ◌≤◌, length};
-    ghost use Rattle.thin_form.specs.FileReading.{At};
+    ghost use Rattle.thin_form.specs.FileParts.{At};
 
     ghost Value = { At };
 
@@ -103,10 +103,10 @@ impl<'a> Reader<'a> {
     }
 
     // Reads the line of a body that comes next, the first one or a later one. None where no whole line with an indent comes.
-    pub fn stmt(
+    pub fn read_stmt(
         &mut self,
         alloc: Global,
-        elements: &Elements,
+        elements: &SliderNames,
         first: bool,
     ) -> Result<Option<Stmt>, ThinFault>
         ensures found { IfOk result
@@ -145,7 +145,7 @@ fn placed_line(
     alloc: Global,
     text: &[u8],
     rest: &[u8],
-    elements: &Elements,
+    elements: &SliderNames,
     first: bool,
 ) -> Result<Option<Line>, Memory>
     ensures found { IfOk result
@@ -160,7 +160,7 @@ fn placed_line(
         ((h : Head) → IsTrue (is_line (as_elements elements.now) h) → text.now ≡ head_text h
         → IsTrue (thin.stands_alone h) × ((first ≡ false) ⊎ IsIndented rest.now))) }
 {
-    let Some(line) = body_line(alloc, text, elements)? else {
+    let Some(line) = read_body_line(alloc, text, elements)? else {
         return Ok(None);
     };
     if stands_alone(&line) && !is_only_line(first, rest) {

@@ -1,49 +1,45 @@
 // Sums.
 ghost use Rattle.std.specs.Prelude.{◌≡◌, IfOk, option_map};
-ghost use Rattle.thin_form.specs.Elements.{as_elements};
+ghost use Rattle.thin_form.specs.SliderNames.{as_elements};
 ghost use Rattle.thin_form.specs.Sums as reading;
 ghost use Rattle.thin_form.specs.Words.{words, words_left};
 ghost use Rattle.py_tree.specs.View.{view};
 
-use crate::elements::Elements;
-use py_tree::{Expr, is_name, number};
+use crate::slider_names::SliderNames;
 use crate::trees;
 use crate::words::{next_word, without_back};
+use py_tree::{Expr, is_name, number};
 use py_value::Memory;
 use std::alloc::Global;
 
 const MAX_TERMS: u32 = 32;
 
-// `NAME.value`, where the word is this and the name is that of a slider.
-fn slider_value(alloc: Global, word: &str, elements: &Elements) -> Result<Option<Expr>, Memory>
+// The sum that the text spells: at most `MAX_TERMS` terms, each but the first behind ` + `.
+pub fn read_sum(alloc: Global, text: &str, elements: &SliderNames) -> Result<Option<Expr>, Memory>
     ensures { IfOk result
-        (λ o. option_map view o ≡ reading.read_value (as_elements elements.now) word.now) }
+        (λ o. option_map view o ≡ reading.read_sum (as_elements elements.now) (words text.now)) }
 {
-    let Some(slider) = without_back(word, ".value") else {
+    let (first, mut rest) = next_word(text);
+    let Some(mut tree) = read_term(alloc, first, elements)? else {
         return Ok(None);
     };
-    if !is_name(slider) || !elements.is_slider(slider) {
-        return Ok(None);
-    }
-    let name = trees::name(alloc, slider)?;
-    Ok(Some(trees::attribute(alloc, name, "value")?))
-}
-
-// The name, the number or the value of a slider that the word is.
-fn term(alloc: Global, word: &str, elements: &Elements) -> Result<Option<Expr>, Memory>
-    ensures { IfOk result
-        (λ o. option_map view o ≡ reading.read_term (as_elements elements.now) word.now) }
-{
-    if is_name(word) {
-        if elements.is_slider(word) {
+    for _terms in 1..MAX_TERMS {
+        let Some(text) = rest else {
+            return Ok(Some(tree));
+        };
+        let Some((word, after)) = next_term(text) else {
             return Ok(None);
-        }
-        return Ok(Some(trees::name(alloc, word)?));
+        };
+        let Some(right) = read_term(alloc, word, elements)? else {
+            return Ok(None);
+        };
+        tree = trees::sum(alloc, tree, right)?;
+        rest = after;
     }
-    if number(word).is_some() {
-        return Ok(Some(trees::numeral(alloc, word)?));
+    match rest {
+        None => Ok(Some(tree)),
+        Some(_) => Ok(None),
     }
-    slider_value(alloc, word, elements)
 }
 
 // The word after `+ `, and the text after it.
@@ -57,30 +53,34 @@ fn next_term(text: &str) -> Option<(&str, Option<&str>)>
     }
 }
 
-// The sum that the text spells: at most `MAX_TERMS` terms, each but the first behind ` + `.
-pub fn sum(alloc: Global, text: &str, elements: &Elements) -> Result<Option<Expr>, Memory>
+// The name, the number or the value of a slider that the word is.
+fn read_term(alloc: Global, word: &str, elements: &SliderNames) -> Result<Option<Expr>, Memory>
     ensures { IfOk result
-        (λ o. option_map view o ≡ reading.read_sum (as_elements elements.now) (words text.now)) }
+        (λ o. option_map view o ≡ reading.read_term (as_elements elements.now) word.now) }
 {
-    let (first, mut rest) = next_word(text);
-    let Some(mut tree) = term(alloc, first, elements)? else {
+    if is_name(word) {
+        if elements.is_slider(word) {
+            return Ok(None);
+        }
+        return Ok(Some(trees::name(alloc, word)?));
+    }
+    if number(word).is_some() {
+        return Ok(Some(trees::numeral(alloc, word)?));
+    }
+    read_value(alloc, word, elements)
+}
+
+// `NAME.value`, where the word is this and the name is that of a slider.
+fn read_value(alloc: Global, word: &str, elements: &SliderNames) -> Result<Option<Expr>, Memory>
+    ensures { IfOk result
+        (λ o. option_map view o ≡ reading.read_value (as_elements elements.now) word.now) }
+{
+    let Some(slider) = without_back(word, ".value") else {
         return Ok(None);
     };
-    for _terms in 1..MAX_TERMS {
-        let Some(text) = rest else {
-            return Ok(Some(tree));
-        };
-        let Some((word, after)) = next_term(text) else {
-            return Ok(None);
-        };
-        let Some(right) = term(alloc, word, elements)? else {
-            return Ok(None);
-        };
-        tree = trees::added(alloc, tree, right)?;
-        rest = after;
+    if !is_name(slider) || !elements.is_slider(slider) {
+        return Ok(None);
     }
-    match rest {
-        None => Ok(Some(tree)),
-        Some(_) => Ok(None),
-    }
+    let name = trees::name(alloc, slider)?;
+    Ok(Some(trees::attribute(alloc, name, "value")?))
 }

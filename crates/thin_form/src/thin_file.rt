@@ -5,9 +5,9 @@ ghost use Rattle.form_meaning.specs.Thin.{IsForm};
 ghost use Rattle.py_tree.specs.Trees.{Cell};
 ghost use Rattle.py_tree.specs.View.{view_cells};
 
-use crate::cells::cells;
-use crate::elements::Elements;
+use crate::cells::read_cells;
 use crate::reader::Reader;
+use crate::slider_names::SliderNames;
 use py_tree::{BYTE_LIMIT, CellCode};
 use py_value::Memory;
 use std::alloc::{AllocFailed, Global};
@@ -57,11 +57,11 @@ pub fn thin(alloc: Global, bytes: &[u8]) -> Result<Vec<CellCode>, ThinFault>
     if bytes.len() > BYTE_LIMIT {
         return Err(ThinFault::Thin { line: 0 });
     }
-    let elements = Elements::of(alloc, bytes)?;
+    let elements = SliderNames::of(alloc, bytes)?;
     let mut reader = Reader::new(bytes, BODY_LINES);
     reader.expect(b"import marimo")?;
     reader.expect(b"app = marimo.App()")?;
-    let cells = cells(alloc, &mut reader, &elements)?;
+    let cells = read_cells(alloc, &mut reader, &elements)?;
     reader.expect(b"if __name__ == \"__main__\":")?;
     reader.expect(b"    app.run()")?;
     if !reader.is_at_end() {

@@ -32,7 +32,7 @@ pub fn numeral(alloc: Global, word: &str) -> Result<Expr, Memory>
 }
 
 // The sum of the two.
-pub fn added(alloc: Global, left: Expr, right: Expr) -> Result<Expr, Memory>
+pub fn sum(alloc: Global, left: Expr, right: Expr) -> Result<Expr, Memory>
     ensures { IfOk result (λ e. view e ≡ pure.sum (view left) (view right)) }
 {
     Ok(Expr::Sum(Boxed::new(alloc, left)?, Boxed::new(alloc, right)?))
@@ -45,14 +45,6 @@ pub fn attribute(alloc: Global, base: Expr, word: &str) -> Result<Expr, Memory>
     Ok(Expr::Attribute(Boxed::new(alloc, base)?, spelling(alloc, word)?))
 }
 
-// `mo.ui.slider`
-fn maker(alloc: Global) -> Result<Expr, Memory>
-    ensures { IfOk result (λ e. view e ≡ maker) }
-{
-    let ui = attribute(alloc, name(alloc, "mo")?, "ui")?;
-    attribute(alloc, ui, "slider")
-}
-
 // `mo.ui.slider(LOW, HIGH)`
 pub fn slider(alloc: Global, low: &str, high: &str) -> Result<Expr, Memory>
     ensures { IfOk result (λ e. view e ≡ slider (record { low = low.now; high = high.now })) }
@@ -61,4 +53,12 @@ pub fn slider(alloc: Global, low: &str, high: &str) -> Result<Expr, Memory>
     bounds.push(numeral(alloc, low)?)?;
     bounds.push(numeral(alloc, high)?)?;
     Ok(Expr::Call(Boxed::new(alloc, maker(alloc)?)?, Row::of(bounds)))
+}
+
+// `mo.ui.slider`
+fn maker(alloc: Global) -> Result<Expr, Memory>
+    ensures { IfOk result (λ e. view e ≡ maker) }
+{
+    let ui = attribute(alloc, name(alloc, "mo")?, "ui")?;
+    attribute(alloc, ui, "slider")
 }

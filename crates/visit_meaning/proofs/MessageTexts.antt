@@ -1,5 +1,5 @@
 -- Bytes are the text of one message.
-use Rattle.std.proofs.Common.{◌≡◌, ◌∙◌, refl, sym, ap, ℕ, ◌<◌, ◌^◌, Bool, true, not, ◌||◌, eqb, inl, inr, length, List, [], ◌∷◌, ◌++◌, append_assoc, arith, ℤ, pos, negsuc}
+use Rattle.std.proofs.Common.{◌≡◌, ◌∙◌, refl, sym, ap, ℕ, ◌<◌, ◌^◌, Bool, true, not, eqb, inl, inr, length, List, [], ◌∷◌, ◌++◌, append_assoc, arith, ℤ, pos, negsuc}
 use Rattle.std.specs.Prelude.{codes, nat_abs}
 use Rattle.std.specs.Int.Signed.{mag}
 use Rattle.std.specs.Fmt.{signed_decimal}
@@ -8,8 +8,9 @@ use Rattle.std.proofs.lemmas.Bool.{and_parts, and_from}
 use Rattle.std.proofs.lemmas.Bool.Decides.{nat_tests}
 use Rattle.std.proofs.lemmas.Fmt.{signed_decimal_injective}
 use Rattle.std.proofs.lemmas.List.{append_cancel_right}
-use Rattle.std.proofs.lemmas.Grind.{common_steps}
-use Rattle.py_tree.specs.Names.{Name, is_digit, is_lower, is_plain_name, is_name}
+use Rattle.py_tree.specs.Names.{Name, is_lower, is_plain_name, is_name}
+pub use Rattle.py_tree.specs.Names.{is_name_byte}
+use Rattle.py_tree.proofs.Breaks.{front_once}
 use Rattle.py_value.specs.declared.types.Value.TheVariants as V
 use Rattle.visit_meaning.specs.Answer.{Message, Open, Set, Other}
 use Rattle.visit_meaning.specs.Messages.{open_text, message_limit, IsTextOf, IsMessage}
@@ -22,19 +23,9 @@ is_unquoted b = not (eqb b 34)
 abbrev pub text_with : (name word : List ℕ) → List ℕ
 text_with name word = codes "{\"set\":{\"" ++ name ++ codes "\":" ++ word ++ codes "}}"
 
-unquoted_head : (c : ℕ) (a : List ℕ) → list_all is_unquoted (c ∷ a) ≡ true → c ≡ 34 → ⊥
-unquoted_head c a p e = grind (arith, common_steps)
-
 -- the front before the first `"`, and what is behind it
 pub quoted_once : (x y d e : List ℕ) → list_all is_unquoted x ≡ true → list_all is_unquoted y ≡ true → x ++ 34 ∷ d ≡ y ++ 34 ∷ e → (x ≡ y) × (d ≡ e)
-quoted_once [] [] d e p q same = (refl, cc)
-quoted_once [] (c ∷ y) d e p q same = absurd (unquoted_head c y q cc)
-quoted_once (c ∷ x) [] d e p q same = absurd (unquoted_head c x p cc)
-quoted_once (b ∷ x) (c ∷ y) d e p q same =
-    let tail : x ++ 34 ∷ d ≡ y ++ 34 ∷ e = cc in
-    let head : b ≡ c = cc in
-    let rest = quoted_once x y d e (and_parts _ _ p).1 (and_parts _ _ q).1 tail in
-    (ap (λ (n : ℕ). n ∷ x) head ∙ ap (λ (l : List ℕ). c ∷ l) rest.0, rest.1)
+quoted_once x y d e p q same = front_once 34 x y d e p q same
 
 -- the same text, as it is read from its beginning
 pub from_front : (x d : List ℕ) → text_with x d ≡ codes "{\"set\":{\"" ++ (x ++ 34 ∷ 58 ∷ (d ++ codes "}}"))
@@ -49,10 +40,6 @@ same_parts x y d e p q same =
     let cut = quoted_once x y (58 ∷ (d ++ codes "}}")) (58 ∷ (e ++ codes "}}")) p q (behind_front _ _ whole) in
     let ends : d ++ codes "}}" ≡ e ++ codes "}}" = let f = cut.1 in cc in
     (cut.0, append_cancel_right d e (codes "}}") ends)
-
--- a byte of a name
-abbrev pub is_name_byte : ℕ → Bool
-is_name_byte b = is_lower b || is_digit b || eqb b 95
 
 lower_in_name : (b : ℕ) → is_lower b ≡ true → is_name_byte b ≡ true
 lower_in_name b h = grind (arith, nat_tests)

@@ -2,8 +2,8 @@
 use Rattle.std.proofs.Common.{◌≤◌, [], ◌∷◌, length, sym, ap, arith}
 use Rattle.std.proofs.lemmas.Bool.{eqb-true, eqb-false}
 use Rattle.std.proofs.lemmas.Result.{err_from_is_err_and}
-use Rattle.thin_form.specs.Elements.{as_elements}
-use Rattle.thin_form.specs.FileReading.{At}
+use Rattle.thin_form.specs.SliderNames.{as_elements}
+use Rattle.thin_form.specs.FileParts.{At}
 use Rattle.thin_form.specs.Places.{First, Second, Last}
 use Rattle.thin_form.proofs.Stops.{first_only, last_only, second_only, stops_between, stops_cells, stops_expect, stops_last, stops_main, stops_past, stops_second}
 use Rattle.thin_form.proofs.WholeFiles.{at_cells, at_end, before_first, before_last, before_second, cause, empty, form, no_cell, no_line}
@@ -61,7 +61,7 @@ returns-in_err-expect-3-clause-refused c =
     let room = ap (λ (a : At). a.room) c.new-reader.ensures in
     let size : length c.args.bytes.now ≤ 1048576 = omega arith in
     let led = c.in_ok-cells.ensures.led in
-    let stop = stops_between es c.new-reader.result c.expect.new.self c.expect-2.new.self c.in_err-expect-3.field-0.0 c.in_ok-expect.ensures.found c.in_ok-expect-2.ensures.found (stops_cells es c.expect-2.new.self c.cells.new.reader (view_cells c.in_ok-cells.cells.items) c.in_err-expect-3.field-0.0 c.in_ok-cells.ensures.found (led.0, led.1, led.2) (λ at. stops_main es c.cells.new.reader at c.in_err-expect-3.field-0.0 c.in_err-expect-3.ensures.line led.3 c.in_err-expect-3.ensures.refused)) in
+    let stop = stops_between es c.new-reader.result c.expect.new.self c.expect-2.new.self c.in_err-expect-3.field-0.0 c.in_ok-expect.ensures.found c.in_ok-expect-2.ensures.found (stops_cells es c.expect-2.new.self c.read_cells.new.reader (view_cells c.in_ok-cells.cells.items) c.in_err-expect-3.field-0.0 c.in_ok-cells.ensures.found (led.0, led.1, led.2) (λ at. stops_main es c.read_cells.new.reader at c.in_err-expect-3.field-0.0 c.in_err-expect-3.ensures.line led.3 c.in_err-expect-3.ensures.refused)) in
     rw (p.1, p.2) (cause es c.in_err-expect-3.field-0.0 c.new-reader.result c.args.bytes.now are c.new-reader.ensures size (λ nb h.
     let w = at_cells es c.new-reader.result c.expect.new.self c.expect-2.new.self nb here line room c.in_ok-expect.ensures.found c.in_ok-expect-2.ensures.found (rw bytes h) in
     let o = c.in_ok-cells.ensures.only nb (text_of footer) w.fits w.room w.bytes no_line no_cell in
@@ -79,11 +79,11 @@ returns-in_err-expect-4-clause-refused c =
     let size : length c.args.bytes.now ≤ 1048576 = omega arith in
     let led = c.in_ok-cells.ensures.led in
     let last = stops_expect es c.expect-3.new.self Last last_line c.in_err-expect-4.field-0.0 c.in_err-expect-4.ensures.line (λ same. cc) c.in_err-expect-4.ensures.refused (last_only es) in
-    let stop = stops_between es c.new-reader.result c.expect.new.self c.expect-2.new.self c.in_err-expect-4.field-0.0 c.in_ok-expect.ensures.found c.in_ok-expect-2.ensures.found (stops_cells es c.expect-2.new.self c.cells.new.reader (view_cells c.in_ok-cells.cells.items) c.in_err-expect-4.field-0.0 c.in_ok-cells.ensures.found (led.0, led.1, led.2) (λ at. stops_last es c.cells.new.reader c.expect-3.new.self at c.in_err-expect-4.field-0.0 c.in_ok-expect-3.ensures.found last)) in
+    let stop = stops_between es c.new-reader.result c.expect.new.self c.expect-2.new.self c.in_err-expect-4.field-0.0 c.in_ok-expect.ensures.found c.in_ok-expect-2.ensures.found (stops_cells es c.expect-2.new.self c.read_cells.new.reader (view_cells c.in_ok-cells.cells.items) c.in_err-expect-4.field-0.0 c.in_ok-cells.ensures.found (led.0, led.1, led.2) (λ at. stops_last es c.read_cells.new.reader c.expect-3.new.self at c.in_err-expect-4.field-0.0 c.in_ok-expect-3.ensures.found last)) in
     rw (p.1, p.2) (cause es c.in_err-expect-4.field-0.0 c.new-reader.result c.args.bytes.now are c.new-reader.ensures size (λ nb h.
     let w = at_cells es c.new-reader.result c.expect.new.self c.expect-2.new.self nb here line room c.in_ok-expect.ensures.found c.in_ok-expect-2.ensures.found (rw bytes h) in
     let o = c.in_ok-cells.ensures.only nb (text_of footer) w.fits w.room w.bytes no_line no_cell in
-    absurd (c.in_err-expect-4.ensures.refused [] (before_last c.cells.new.reader c.expect-3.new.self c.in_ok-expect-3.ensures.found o.1))) stop)
+    absurd (c.in_err-expect-4.ensures.refused [] (before_last c.read_cells.new.reader c.expect-3.new.self c.in_ok-expect-3.ensures.found o.1))) stop)
 
 pub returns-then-not-is_at_end-clause-refused : goal.returns-then-not-is_at_end-clause-refused
 returns-then-not-is_at_end-clause-refused c =
@@ -96,11 +96,11 @@ returns-then-not-is_at_end-clause-refused c =
     let size : length c.args.bytes.now ≤ 1048576 = omega arith in
     let led = c.in_ok-cells.ensures.led in
     let past = stops_past es c.expect-3.new.self c.expect-4.new.self c.fault.result c.in_ok-expect-4.ensures.found c.fault.ensures in
-    let stop = stops_between es c.new-reader.result c.expect.new.self c.expect-2.new.self c.fault.result c.in_ok-expect.ensures.found c.in_ok-expect-2.ensures.found (stops_cells es c.expect-2.new.self c.cells.new.reader (view_cells c.in_ok-cells.cells.items) c.fault.result c.in_ok-cells.ensures.found (led.0, led.1, led.2) (λ at. stops_last es c.cells.new.reader c.expect-3.new.self at c.fault.result c.in_ok-expect-3.ensures.found past)) in
+    let stop = stops_between es c.new-reader.result c.expect.new.self c.expect-2.new.self c.fault.result c.in_ok-expect.ensures.found c.in_ok-expect-2.ensures.found (stops_cells es c.expect-2.new.self c.read_cells.new.reader (view_cells c.in_ok-cells.cells.items) c.fault.result c.in_ok-cells.ensures.found (led.0, led.1, led.2) (λ at. stops_last es c.read_cells.new.reader c.expect-3.new.self at c.fault.result c.in_ok-expect-3.ensures.found past)) in
     cause es c.fault.result c.new-reader.result c.args.bytes.now are c.new-reader.ensures size (λ nb h.
     let w = at_cells es c.new-reader.result c.expect.new.self c.expect-2.new.self nb here line room c.in_ok-expect.ensures.found c.in_ok-expect-2.ensures.found (rw bytes h) in
     let o = c.in_ok-cells.ensures.only nb (text_of footer) w.fits w.room w.bytes no_line no_cell in
-    let last = before_last c.cells.new.reader c.expect-3.new.self c.in_ok-expect-3.ensures.found o.1 in
+    let last = before_last c.read_cells.new.reader c.expect-3.new.self c.in_ok-expect-3.ensures.found o.1 in
     let none = at_end c.expect-3.new.self c.expect-4.new.self c.in_ok-expect-4.ensures.found last in
     absurd (eqb-false _ _ (sym c.if-not-is_at_end.ensures) (ap length none))) stop
 
@@ -114,7 +114,7 @@ returns-clause-cells c =
     let room = ap (λ (a : At). a.room) c.new-reader.ensures in
     let size : length c.new-reader.result.bytes ≤ 1048576 = rw bytes (omega arith) in
     let none = empty c.expect-4.new.self.bytes (eqb-true _ _ (sym c.if-not-is_at_end.ensures)) in
-    rw bytes at (form es c.new-reader.result c.expect.new.self c.expect-2.new.self c.cells.new.reader c.expect-3.new.self c.expect-4.new.self (view_cells c.in_ok-cells.cells.items) here line room size c.in_ok-expect.ensures.found c.in_ok-expect-2.ensures.found c.in_ok-cells.ensures.found c.in_ok-expect-3.ensures.found c.in_ok-expect-4.ensures.found none)
+    rw bytes at (form es c.new-reader.result c.expect.new.self c.expect-2.new.self c.read_cells.new.reader c.expect-3.new.self c.expect-4.new.self (view_cells c.in_ok-cells.cells.items) here line room size c.in_ok-expect.ensures.found c.in_ok-expect-2.ensures.found c.in_ok-cells.ensures.found c.in_ok-expect-3.ensures.found c.in_ok-expect-4.ensures.found none)
 
 pub returns-clause-only : goal.returns-clause-only
 returns-clause-only c nb h =

@@ -1,7 +1,7 @@
 -- Each line is taken in, until none is left.
 use Rattle.std.proofs.Common.{sym, subst}
 use Rattle.thin_form.proofs.Scans.{Scanned, nothing_scanned, line_scanned, all_scanned}
-use Rattle.thin_form.proofs.elements.Elements.of.Goals as goal
+use Rattle.thin_form.proofs.slider_names.SliderNames.of.Goals as goal
 
 pub loop-line-init : goal.loop-line-init
 loop-line-init c = subst (Scanned c.args.bytes.now c.args.bytes.now) (sym c.new-elements.ensures) (nothing_scanned c.args.bytes.now)

@@ -2,9 +2,9 @@
 use Rattle.std.proofs.Common.{◌||◌, ap, ◌∙◌}
 use Rattle.std.specs.Str.{bytes_eq}
 use Rattle.py_tree.specs.Names.{is_among}
-use Rattle.thin_form.specs.Elements.{Known, is_just}
+use Rattle.thin_form.specs.SliderNames.{Known, is_just}
 use Rattle.thin_form.proofs.NameSets.{name_added}
-use Rattle.thin_form.proofs.elements.Elements.learn.Goals as goal
+use Rattle.thin_form.proofs.slider_names.SliderNames.learn.Goals as goal
 
 pub returns-in_ok-insert : goal.returns-in_ok-insert
 returns-in_ok-insert c =

@@ -1,9 +1,9 @@
 -- A look-up in the set is one among the names.
 use Rattle.std.proofs.Common.{ap, ◌∙◌}
-use Rattle.thin_form.specs.Elements.{Known}
+use Rattle.thin_form.specs.SliderNames.{Known}
 use Rattle.py_tree.specs.Names.{is_among}
 use Rattle.thin_form.proofs.NameSets.{has_name}
-use Rattle.thin_form.proofs.elements.Elements.is_slider.Goals as goal
+use Rattle.thin_form.proofs.slider_names.SliderNames.is_slider.Goals as goal
 
 pub returns : goal.returns
 returns c =

@@ -2,8 +2,8 @@
 use Rattle.std.proofs.Common.{◌≡◌, ◌<◌, ℕ, Bool, eqb, List, [], ◌∷◌, ◌++◌, length, IsTrue, not, refl, inl, inr, sym, ap, ◌∙◌, arith, subst, eq-eqb, vec_len}
 use Rattle.std.proofs.lemmas.Bool.{eqb-true, eqb-false, false≢true, ne_eqb}
 use Rattle.std.proofs.lemmas.Result.{err_from_is_err_and}
-use Rattle.thin_form.specs.Elements.{as_elements}
-use Rattle.thin_form.specs.FileReading.{At, IsIndented}
+use Rattle.thin_form.specs.SliderNames.{as_elements}
+use Rattle.thin_form.specs.FileParts.{At, IsIndented}
 use Rattle.thin_form.specs.Places.{IsBody, IsNoNext, StopsAt}
 use Rattle.thin_form.specs.declared.thin_file.ThinFault.TheVariants.{Thin, Memory}
 use Rattle.thin_form.proofs.Stops.{between_after, body_place, stops_body, stops_empty}
@@ -13,7 +13,7 @@ use Rattle.py_tree.specs.TextLines.{text_of}
 use Rattle.py_tree.specs.Trees.{end, then_comes}
 use Rattle.py_tree.specs.View.{view_stmt, view_stmts}
 use Rattle.py_tree.specs.declared.tree.Stmt.{Stmt}
-use Rattle.thin_form.proofs.cells.body.Goals as goal
+use Rattle.thin_form.proofs.cells.read_body.Goals as goal
 
 no_lines : (xs : List Stmt) → length xs ≡ 0 → view_stmts xs ≡ end
 no_lines [] e = refl
@@ -94,7 +94,7 @@ returns-clause-only c body rest fits some whole room e u =
     let inv = c.loop-stmts.invariant in
     let done = view_stmts c.loop-stmts.stmts.items in
     let first : c.is_empty.result ≡ is_empty done = c.is_empty.ensures ∙ opens c.loop-stmts.stmts.items (vec_len c.loop-stmts.stmts) (omega (arith, c.loop-stmts.stmts.ok.0)) in
-    let same : c.stmt.new.self ≡ c.loop-stmts.reader = rw c.in_default.is at c.in_ok-stmt.ensures.found in
+    let same : c.read_stmt.new.self ≡ c.loop-stmts.reader = rw c.in_default.is at c.in_ok-stmt.ensures.found in
     let only = rw c.in_default.is at c.in_ok-stmt.ensures.only in
     let ended = last es c.args.reader.now c.loop-stmts.reader done body rest inv.found (λ head after f p r l. (only head after f (rw first p) r l).0) fits whole room u (inv.continues body rest fits whole room e u) in
     (sym ended.parts, ap (λ (a : At). a.bytes) same ∙ ended.left)
@@ -116,7 +116,7 @@ returns-then-is_empty-clause-stuck c =
     let es = as_elements c.args.elements.now in
     let size : vec_len c.loop-stmts.stmts ≡ 0 = eqb-true _ _ (sym c.if-is_empty.ensures) in
     let empty : view_stmts c.loop-stmts.stmts.items ≡ end = no_lines _ (omega (arith, c.loop-stmts.stmts.ok.0)) in
-    let same : c.stmt.new.self ≡ c.loop-stmts.reader = rw c.in_default.is at c.in_ok-stmt.ensures.found in
+    let same : c.read_stmt.new.self ≡ c.loop-stmts.reader = rw c.in_default.is at c.in_ok-stmt.ensures.found in
     let none : IsNoNext (IsBody es) c.loop-stmts.reader.bytes = rw c.in_default.is at c.in_ok-stmt.ensures.none in
     let line = ap (λ (a : At). Thin a.line) same in
     stops_empty es c.args.reader.now c.loop-stmts.reader (view_stmts c.loop-stmts.stmts.items) c.fault.result c.loop-stmts.invariant.found empty (c.fault.ensures ∙ line) none
@@ -127,6 +127,6 @@ returns-clause-between c =
     let done = view_stmts c.loop-stmts.stmts.items in
     let size : vec_len c.loop-stmts.stmts ≡ 0 → ⊥ = eqb-false _ _ (sym c.if-is_empty.ensures) in
     let some : IsTrue (not (is_empty done)) = some_lines _ (omega (arith, c.loop-stmts.stmts.ok.0)) in
-    let same : c.stmt.new.self ≡ c.loop-stmts.reader = rw c.in_default.is at c.in_ok-stmt.ensures.found in
+    let same : c.read_stmt.new.self ≡ c.loop-stmts.reader = rw c.in_default.is at c.in_ok-stmt.ensures.found in
     let none : IsNoNext (IsBody es) c.loop-stmts.reader.bytes = rw c.in_default.is at c.in_ok-stmt.ensures.none in
     rw same (between_after es done c.loop-stmts.reader.bytes some c.loop-stmts.invariant.kept.apart none)

@@ -3,14 +3,14 @@ use Rattle.std.proofs.Common.{◌≡◌, List, ℕ, Option, None, Some, ap, ◌�
 use Rattle.std.specs.Prelude.{option_map, IfSome, IsTrue}
 use Rattle.std.specs.Str.{IsUtf8}
 use Rattle.std.proofs.lemmas.Result.{IfOk-weaker}
-use Rattle.thin_form.specs.Elements.{as_elements}
+use Rattle.thin_form.specs.SliderNames.{as_elements}
 use Rattle.thin_form.specs.Lines.{read_line}
 use Rattle.form_meaning.specs.Thin.{Elements, is_line, head_text}
 use Rattle.py_tree.specs.View.{view_head}
 use Rattle.py_tree.specs.declared.tree.Line.{Line}
 use Rattle.thin_form.proofs.LineFound.{line_found}
 use Rattle.thin_form.proofs.LineOnly.{line_only, line_is_text}
-use Rattle.thin_form.proofs.line.body_line.Goals as goal
+use Rattle.thin_form.proofs.line.read_body_line.Goals as goal
 
 found : (es : Elements) (text : List ℕ) (o : Option Line) → option_map view_head o ≡ read_line es text
     → IfSome o (λ l. IsTrue (is_line es (view_head l)) × (text ≡ head_text (view_head l)))
@@ -20,12 +20,12 @@ found es text (Some l) e = let line = line_found es text (view_head l) (sym e) i
 pub returns-in-Ok-clause-found : goal.returns-in-Ok-clause-found
 returns-in-Ok-clause-found c =
     let es = as_elements c.args.elements.now in
-    IfOk-weaker c.line.result _ _ (λ o e. found es c.args.text.now o (e ∙ ap (read_line es) c.in-Ok.ensures.cases.0)) c.line.ensures
+    IfOk-weaker c.read_line.result _ _ (λ o e. found es c.args.text.now o (e ∙ ap (read_line es) c.in-Ok.ensures.cases.0)) c.read_line.ensures
 
 pub returns-in-Ok-clause-only : goal.returns-in-Ok-clause-only
 returns-in-Ok-clause-only c h e s =
     let es = as_elements c.args.elements.now in
-    IfOk-weaker c.line.result _ _ (λ o read. read ∙ (ap (read_line es) (c.in-Ok.ensures.cases.0 ∙ s) ∙ line_only es h e)) c.line.ensures
+    IfOk-weaker c.read_line.result _ _ (λ o read. read ∙ (ap (read_line es) (c.in-Ok.ensures.cases.0 ∙ s) ∙ line_only es h e)) c.read_line.ensures
 
 pub returns-in-Err-clause-only : goal.returns-in-Err-clause-only
 returns-in-Err-clause-only c h e s =

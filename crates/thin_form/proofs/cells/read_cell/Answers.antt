@@ -1,13 +1,13 @@
 -- The decorator, the `def` line and the body are read in turn.
 use Rattle.std.proofs.Common.{◌≡◌, ◌++◌, ◌∙◌, refl}
 use Rattle.std.proofs.lemmas.Result.{err_from_is_err_and}
-use Rattle.thin_form.specs.Elements.{as_elements}
+use Rattle.thin_form.specs.SliderNames.{as_elements}
 use Rattle.thin_form.specs.Places.{AfterAlone, Definition}
 use Rattle.thin_form.proofs.Stops.{definition_only, stops_behind, stops_expect, stops_in_cell}
 use Rattle.thin_form.proofs.WholeCells.{at_body, behind_decorator, is_read, same_cell}
 use Rattle.form_meaning.specs.Thin.{body_lines, decorator_line, definition_line}
 use Rattle.py_tree.specs.TextLines.{text_of}
-use Rattle.thin_form.proofs.cells.cell.Goals as goal
+use Rattle.thin_form.proofs.cells.read_cell.Goals as goal
 
 pub returns-in_err-expect-clause-only : goal.returns-in_err-expect-clause-only
 returns-in_err-expect-clause-only c cell rest fits room e u =

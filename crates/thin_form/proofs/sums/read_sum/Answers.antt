@@ -1,14 +1,14 @@
 -- Each turn reads one term more, and each return is what reading comes to there.
 use Rattle.std.proofs.Common.{◌+◌, Bor, List, ℕ, sym, ap, ◌∙◌, arith}
 use Rattle.std.specs.Prelude.{option_map}
-use Rattle.thin_form.specs.Elements.{as_elements}
+use Rattle.thin_form.specs.SliderNames.{as_elements}
 use Rattle.thin_form.specs.Sums.{read_more}
 use Rattle.thin_form.specs.Words.{words, words_left}
 use Rattle.form_meaning.specs.Thin.{terms}
 use Rattle.py_tree.specs.View.{view}
 use Rattle.thin_form.proofs.Cuts.{some_word}
 use Rattle.thin_form.proofs.SumSteps.{one_term, no_plus, plus_no_term, plus_term, too_many}
-use Rattle.thin_form.proofs.sums.sum.Goals as goal
+use Rattle.thin_form.proofs.sums.read_sum.Goals as goal
 
 pub loop-terms-init : goal.loop-terms-init
 loop-terms-init c =

@@ -1,7 +1,7 @@
 // What the lines of a file say of its elements.
 ghost use Rattle.std.specs.Prelude.{◌≡◌, codes, IfOk, OnOk};
 ghost use Rattle.std.specs.Str.{bytes_eq};
-ghost use Rattle.thin_form.specs.Elements.{as_elements, unknown, Learns};
+ghost use Rattle.thin_form.specs.SliderNames.{as_elements, unknown, Learns};
 ghost use Rattle.form_meaning.specs.Fails.{AreElements};
 
 use crate::sliders::slider_in;
@@ -11,35 +11,28 @@ use std::alloc::Global;
 use std::collections::BTreeSet;
 use std::marker::Model;
 
-// Whether the line, with its indent, imports `mo`.
-fn is_import(line: &[u8]) -> bool
-    ensures { result ≡ bytes_eq line.now (codes "    import marimo as mo") }
-{
-    line == b"    import marimo as mo".as_slice()
-}
-
 // The names of the sliders that lines make, and whether a line imports `mo`.
 #[derive(Drop)]
-pub struct Elements<'a> {
+pub struct SliderNames<'a> {
     sliders: BTreeSet<&'a str>,
     imported: bool,
 }
 
-impl<'a> Model for Elements<'a> {
+impl<'a> Model for SliderNames<'a> {
     ghost use Rattle.std.specs.Prelude.{map};
-    ghost use Rattle.thin_form.specs.Elements.{Known};
+    ghost use Rattle.thin_form.specs.SliderNames.{Known};
 
     ghost Value = { Known };
 
     ghost view = { λ es. record { sliders = map (λ name. name.now) es.sliders.keys; imported = es.imported } };
 }
 
-impl<'a> Elements<'a> {
+impl<'a> SliderNames<'a> {
     // Before any line.
     fn new(alloc: Global) -> Self
         ensures { result ≡ unknown }
     {
-        Elements {
+        SliderNames {
             sliders: BTreeSet::new(alloc),
             imported: false,
         }
@@ -71,10 +64,10 @@ impl<'a> Elements<'a> {
     }
 
     /// What the whole lines of these bytes say, also the lines behind one that doesn't fit.
-    pub fn of(alloc: Global, bytes: &'a [u8]) -> Result<Elements<'a>, Memory>
+    pub fn of(alloc: Global, bytes: &'a [u8]) -> Result<SliderNames<'a>, Memory>
         ensures { IfOk result (λ es. AreElements bytes.now (as_elements es)) }
     {
-        let mut elements = Elements::new(alloc);
+        let mut elements = SliderNames::new(alloc);
         let mut rest = bytes;
         while let Some((line, after)) = whole_line(rest) {
             elements.learn(line)?;
@@ -82,6 +75,13 @@ impl<'a> Elements<'a> {
         }
         Ok(elements)
     }
+}
+
+// Whether the line, with its indent, imports `mo`.
+fn is_import(line: &[u8]) -> bool
+    ensures { result ≡ bytes_eq line.now (codes "    import marimo as mo") }
+{
+    line == b"    import marimo as mo".as_slice()
 }
 
 #[cfg(test)]
@@ -93,7 +93,7 @@ mod tests {
     fn finds_sliders_on_any_line(rt: HostRuntime) -> Result<(), Fail> {
         let bytes =
             b"no line of the form\n    a = mo.ui.slider(0, 1)\n    b = mo.ui.slider(1, 0)\nc = mo.ui.slider(0, 1)\n\xff\n    \xff\n    d = mo.ui.slider(3, 3)\n    f = mo.ui.slider(0, 1)";
-        let elements = Elements::of(rt.alloc(), bytes)?;
+        let elements = SliderNames::of(rt.alloc(), bytes)?;
         for (name, want) in [
             ("a", true),
             ("b", false),
@@ -118,7 +118,7 @@ mod tests {
         ];
         for (bytes, want) in files {
             assert_eq!(rt;
-                Elements::of(rt.alloc(), bytes)?.imported(),
+                SliderNames::of(rt.alloc(), bytes)?.imported(),
                 want,
                 "at {bytes:?}"
             );

@@ -2,8 +2,8 @@
 use Rattle.std.proofs.Common.{◌≡◌, [], ◌∷◌, ◌++◌, inl, inr, sym, ap, ◌∙◌}
 use Rattle.std.specs.Prelude.{flat_map}
 use Rattle.std.proofs.lemmas.Result.{err_from_is_err_and}
-use Rattle.thin_form.specs.Elements.{as_elements}
-use Rattle.thin_form.specs.FileReading.{At}
+use Rattle.thin_form.specs.SliderNames.{as_elements}
+use Rattle.thin_form.specs.FileParts.{At}
 use Rattle.thin_form.specs.declared.thin_file.ThinFault.TheVariants.{Memory}
 use Rattle.thin_form.specs.Places.{IsNoNext}
 use Rattle.thin_form.proofs.Stops.{led_none, led_on, stops_cells}
@@ -11,7 +11,7 @@ use Rattle.thin_form.proofs.WholeCells.{begins, goes_on, has_more, last, less_ro
 use Rattle.form_meaning.specs.Thin.{cell_lines, decorator_line}
 use Rattle.py_tree.specs.TextLines.{text_of}
 use Rattle.py_tree.specs.View.{view_cell, view_cells}
-use Rattle.thin_form.proofs.cells.cells.Goals as goal
+use Rattle.thin_form.proofs.cells.read_cells.Goals as goal
 
 pub returns-in_err-next-clause-only : goal.returns-in_err-next-clause-only
 returns-in_err-next-clause-only c cells rest fits room e u v =
@@ -59,7 +59,7 @@ pub returns-clause-only : goal.returns-clause-only
 returns-clause-only c cells rest fits room e u v =
     let es = as_elements c.args.elements.now in
     let inv = c.loop-cells.invariant in
-    let same : c.cell.new.reader ≡ c.loop-cells.reader = rw c.in_default.is at c.in_ok-next.ensures.found in
+    let same : c.read_cell.new.reader ≡ c.loop-cells.reader = rw c.in_default.is at c.in_ok-next.ensures.found in
     let only = rw c.in_default.is at c.in_ok-next.ensures.only in
     let ended = last es c.args.reader.now c.loop-cells.reader (view_cells c.loop-cells.cells.items) cells rest inv.found (λ cell after f r l b. (only cell after f r l b).0) fits room u (inv.continues cells rest fits room e u v) in
     (sym ended.parts, ap (λ (a : At). a.bytes) same ∙ ended.left)
@@ -75,6 +75,6 @@ returns-in_err-next-clause-stuck c =
 pub returns-clause-led : goal.returns-clause-led
 returns-clause-led c =
     let led = c.loop-cells.invariant.led in
-    let same : c.cell.new.reader ≡ c.loop-cells.reader = rw c.in_default.is at c.in_ok-next.ensures.found in
+    let same : c.read_cell.new.reader ≡ c.loop-cells.reader = rw c.in_default.is at c.in_ok-next.ensures.found in
     let absent : IsNoNext (λ line. line ≡ decorator_line) c.loop-cells.reader.bytes = rw c.in_default.is at c.in_ok-next.ensures.between in
     rw same (led.0, led.1, led.2, absent)

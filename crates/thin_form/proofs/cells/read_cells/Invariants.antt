@@ -1,12 +1,12 @@
 -- The cells so far, that cells which the bytes begin with go on with what is left of them, and the place after the cells.
 use Rattle.std.specs.Prelude.{flat_map}
-use Rattle.thin_form.specs.Elements.{as_elements}
-use Rattle.thin_form.specs.FileReading.{HasCells}
+use Rattle.thin_form.specs.SliderNames.{as_elements}
+use Rattle.thin_form.specs.FileParts.{HasCells}
 use Rattle.thin_form.proofs.Stops.{Led}
 use Rattle.thin_form.proofs.WholeCells.{Continues}
 use Rattle.form_meaning.specs.Thin.{cell_lines}
 use Rattle.py_tree.specs.View.{view_cells}
-use Rattle.thin_form.proofs.cells.cells.Given as goal
+use Rattle.thin_form.proofs.cells.read_cells.Given as goal
 
 abbrev pub invariant-loop-cells : goal.invariant-loop-cells
 invariant-loop-cells l = record {

@@ -4,13 +4,13 @@ use Rattle.form_meaning.specs.Thin.{Elements, is_line, stands_alone, head_text, 
 use Rattle.py_tree.specs.TextLines.{text_of, is_unbroken}
 use Rattle.py_tree.specs.Trees.{Head, Stmt, stmt, Stmts, end}
 use Rattle.py_tree.specs.View.{view_head, view_block}
-use Rattle.thin_form.specs.Elements.{as_elements}
-use Rattle.thin_form.specs.FileReading.{At, HasStmt, IsIndented, IsPlaced}
+use Rattle.thin_form.specs.SliderNames.{as_elements}
+use Rattle.thin_form.specs.FileParts.{At, HasStmt, IsIndented, IsPlaced}
 use Rattle.py_tree.proofs.Breaks.{cut_once}
 use Rattle.thin_form.proofs.OneLine.{line_unbroken}
 use Rattle.thin_form.proofs.Stops.{Misplaced, stops_full, stops_misplaced}
 use Rattle.thin_form.proofs.Views.{view_line}
-use Rattle.thin_form.proofs.reader.Reader.stmt.Goals as goal
+use Rattle.thin_form.proofs.reader.Reader.read_stmt.Goals as goal
 
 -- the bytes begin with the indent
 indent : (bytes left : List ℕ) → left ≡ bytes → (text rest : List ℕ) → left ≡ 32 ∷ 32 ∷ 32 ∷ 32 ∷ (text ++ 10 ∷ rest) → IsIndented bytes

@@ -1,10 +1,10 @@
 -- The lines so far, that a whole body which the bytes begin with goes on with what is left, and that no line stands beside one that
 -- stands alone.
-use Rattle.thin_form.specs.Elements.{as_elements}
-use Rattle.thin_form.specs.FileReading.{HasBody}
+use Rattle.thin_form.specs.SliderNames.{as_elements}
+use Rattle.thin_form.specs.FileParts.{HasBody}
 use Rattle.thin_form.proofs.Bodies.{Continues, IsKept}
 use Rattle.py_tree.specs.View.{view_stmts}
-use Rattle.thin_form.proofs.cells.body.Given as goal
+use Rattle.thin_form.proofs.cells.read_body.Given as goal
 
 abbrev pub invariant-loop-stmts : goal.invariant-loop-stmts
 invariant-loop-stmts l = record {
