@@ -9,7 +9,7 @@ use Rattle.graph_meaning.specs.Graph.{edge, numbers_from, is_in, parents, IsChai
 use Rattle.graph_meaning.proofs.Orders.{to_cell, on_cycle_below}
 use Rattle.graph_meaning.proofs.Reaching.{parent_by, edge_by}
 use Rattle.cell_graph.specs.Counts.{list_in}
-use Rattle.cell_graph.specs.Kept.{AreParents}
+use Rattle.cell_graph.specs.Tables.{AreParents}
 use Rattle.cell_graph.specs.Marks.{is_marked}
 use Rattle.cell_graph.proofs.Numbers.{numbers_alike, filter_within}
 use Rattle.cell_graph.proofs.Tallies.{is_in_push, or_false, past_all}

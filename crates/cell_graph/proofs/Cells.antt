@@ -14,7 +14,7 @@ use Rattle.py_tree.specs.Trees.{Cell}
 use Rattle.graph_meaning.specs.Graph.{names_at, defs_of, refs_of, numbers_from, all_cells, parents, order, defined_before, IsDoubled, NoneDoubled, AreCyclic}
 use Rattle.graph_meaning.proofs.Orders.{short_is_cyclic}
 use Rattle.cell_graph.specs.Definers.{names_in, FindsLists, lists_with}
-use Rattle.cell_graph.specs.Kept.{AreDefs, AreRefs, AreParents}
+use Rattle.cell_graph.specs.Tables.{AreDefs, AreRefs, AreParents}
 use Rattle.cell_graph.proofs.LookUps.{in_earlier, in_next, within}
 use Rattle.cell_graph.proofs.Names.{filter_alike}
 use Rattle.cell_graph.proofs.Numbers.{numbers_alike}

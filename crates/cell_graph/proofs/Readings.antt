@@ -18,7 +18,7 @@ use Rattle.py_tree.specs.Trees.{Cell}
 use Rattle.py_value.specs.Maps.{Map, look_up, put, put_by, where_name}
 use Rattle.graph_meaning.specs.Graph.{is_in, names_at, refs_of}
 use Rattle.graph_meaning.specs.Reruns.{reads_one}
-use Rattle.cell_graph.specs.Kept.{AreRefs}
+use Rattle.cell_graph.specs.Tables.{AreRefs}
 use Rattle.cell_graph.specs.Readers.{cells_at, HasReaders}
 use Rattle.cell_graph.proofs.LookUps.{among_last, within}
 use Rattle.cell_graph.proofs.Names.{same_either_way}

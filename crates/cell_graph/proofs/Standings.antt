@@ -11,7 +11,7 @@ use Rattle.graph_meaning.specs.Reruns.{reads_one, is_within}
 use Rattle.graph_meaning.proofs.Orders.{places_below, places_distinct, step_back, free_is_listed, to_cell}
 use Rattle.graph_meaning.proofs.Reaching.{near_reader, near_next, near_from}
 use Rattle.cell_graph.specs.Counts.{list_in, AreTurned}
-use Rattle.cell_graph.specs.Kept.{AreRefs, AreParents}
+use Rattle.cell_graph.specs.Tables.{AreRefs, AreParents}
 use Rattle.cell_graph.specs.Places.{is_placed, ArePlaced}
 use Rattle.cell_graph.specs.Readers.{cells_at, HasReaders}
 use Rattle.cell_graph.proofs.Ancestors.{edge_from, in_list}

@@ -10,7 +10,7 @@ use Rattle.std.proofs.lemmas.Option.{slice_get-get_or}
 use Rattle.py_tree.specs.Trees.{Cell}
 use Rattle.graph_meaning.specs.Graph.{numbers_from, all_cells, is_in, parents, edge, is_ready, next_cell, with_next, places}
 use Rattle.cell_graph.specs.Counts.{list_in, count_of, AreWithin, AreTurned}
-use Rattle.cell_graph.specs.Kept.{AreParents}
+use Rattle.cell_graph.specs.Tables.{AreParents}
 use Rattle.cell_graph.proofs.Numbers.{numbers_alike, find_within, Popped, popped, none_popped}
 use Rattle.cell_graph.proofs.Names.{filter_alike}
 use Rattle.cell_graph.proofs.Tallies.{is_in_push, past_all, none_counted, not_counted, or_false}

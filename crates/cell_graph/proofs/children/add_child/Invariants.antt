@@ -5,4 +5,4 @@ use Rattle.cell_graph.proofs.children.add_child.Given as goal
 
 abbrev pub invariant-loop-parent : goal.invariant-loop-parent
 invariant-loop-parent l =
-    (a d : ℕ) → count_of d (list_in l.below a) ≡ count_of d (list_in l.fn.below a) + cond (l.child == d) (count_of a (take l.parent-index l.parents)) 0
+    (a d : ℕ) → count_of d (list_in l.children a) ≡ count_of d (list_in l.fn.children a) + cond (l.child == d) (count_of a (take l.parent-index l.parents)) 0
