@@ -15,12 +15,13 @@ use Rattle.std.proofs.lemmas.Slice.Eq.{bytes_eq-Decides}
 use Rattle.py_tree.specs.Names.{Name, is_among}
 use Rattle.py_tree.specs.Scope.{refs}
 use Rattle.py_tree.specs.Trees.{Cell}
+use Rattle.py_tree.proofs.NamesOf.{among_append}
 use Rattle.py_value.specs.Maps.{Map, look_up, put, put_by, where_name}
 use Rattle.graph_meaning.specs.Graph.{is_in, names_at, refs_of}
 use Rattle.graph_meaning.specs.Reruns.{reads_one}
 use Rattle.cell_graph.specs.Tables.{AreRefs}
 use Rattle.cell_graph.specs.Readers.{cells_at, HasReaders}
-use Rattle.cell_graph.proofs.LookUps.{among_last, within}
+use Rattle.cell_graph.proofs.LookUps.{within, names_kept}
 use Rattle.cell_graph.proofs.Names.{same_either_way}
 use Rattle.cell_graph.proofs.Tallies.{is_in_push}
 
@@ -107,7 +108,7 @@ pub name_more : (names : List Name) (i : ℕ) (name : Name) → i < length names
     → ((old || (here && is_among x (take i names))) || (here && bytes_eq name x)) ≡ (old || (here && is_among x (take (i + 1) names)))
 name_more names i name lt is x old here =
     joined old here (is_among x (take i names)) (bytes_eq name x)
-    ∙ ap (λ b. old || (here && b)) (sym (ap (is_among x) (take_more names i name lt ∙ ap (λ y. take i names ++ y ∷ []) (sym is)) ∙ among_last name x (take i names)))
+    ∙ ap (λ b. old || (here && b)) (sym (ap (is_among x) (take_more names i name lt ∙ ap (λ y. take i names ++ y ∷ []) (sym is)) ∙ among_append x (take i names) (name ∷ [])))
   where
     joined : (a h b t : Bool) → ((a || (h && b)) || (h && t)) ≡ (a || (h && (b || (t || false))))
     joined true h b t = refl
@@ -118,25 +119,12 @@ name_more names i name lt is x old here =
 
 -- ---- the cells of the table
 
--- a fact of each number in a list
-pub all_from_in : (P : ℕ → Type 0) (cs : List ℕ) → ((d : ℕ) → is_in d cs ≡ true → P d) → All P cs
-all_from_in P [] each k d lt = absurd (omega arith)
-all_from_in P (c ∷ cs) each zero d lt = each c (or_left _ _ (eq-eqb c c refl))
-all_from_in P (c ∷ cs) each (suc k) d lt = all_from_in P cs (λ e h. each e (or_right (c == e) _ h)) k d (omega arith)
-
 module _ (nb : List Cell) (referenced : List (List Name)) (kept : AreRefs nb referenced) (table : Map (List ℕ)) (has : HasReaders referenced table) where
-  refs_at : (o : Option (List Name)) (c : ℕ) → slice_get referenced c ≡ o → unwrap_or o [] ≡ refs_of nb c
-  refs_at (Some names) c h = kept.each c names h
-  refs_at None c h = ⊎_elim
-      (λ below. let bad : None ≡ Some (get_or referenced c []) = sym h ∙ slice_get-get_or referenced c [] below in absurd cc)
-      (λ past. sym (ap (names_at refs) (slice_get_past nb c (subst (λ (n : ℕ). n ≤ c) kept.count past))))
-      (cases_lt c (length referenced))
-
   pub reader_inside : (x : Name) (c : ℕ) → is_in c (cells_at table x) ≡ true → c < length nb
   reader_inside x c h = let low = within referenced x c (sym (has.each x c) ∙ h) in omega (arith, kept.count)
 
   pub is_reader : (x : Name) (c : ℕ) → is_in c (cells_at table x) ≡ is_among x (refs_of nb c)
-  is_reader x c = has.each x c ∙ ap (is_among x) (refs_at (slice_get referenced c) c refl)
+  is_reader x c = has.each x c ∙ ap (is_among x) (names_kept refs nb referenced kept c)
 
 -- ---- names in two lists
 

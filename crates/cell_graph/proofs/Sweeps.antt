@@ -1,6 +1,7 @@
 -- The cells that are listed, the counts of parents that aren't, and the cells that are ready.
 use Rattle.std.proofs.Common.{◌≡◌, ℕ, zero, suc, ◌+◌, ◌<◌, ◌≤◌, Bool, true, false, cond, not, ◌&&◌, ◌||◌, ◌==◌, ⊎_elim, List, [], ◌∷◌, ◌++◌, length, get_or, map, filter, find, refl, sym, ap, ◌∙◌, subst, add-one, arith}
 use Rattle.std.specs.List.{list_all, All, count_by}
+use Rattle.std.proofs.Math.Bool.{or-false}
 use Rattle.std.proofs.lemmas.Bool.{both_ways, cases_Bool, cases_eq, cases_lt, eq-eqb, eqb-true, ne_eqb, and_parts, and_left, and_right, or_cases, or_left, or_right, or_from, and_from, not-true, not_from_true, not_from_false}
 use Rattle.std.proofs.lemmas.List.{length-map, get_or_default}
 use Rattle.std.proofs.lemmas.List.Elements.{All-filter}
@@ -9,11 +10,12 @@ use Rattle.std.proofs.lemmas.List.Sums.{sum_by-cons, count_by_more_yes, sum_by-t
 use Rattle.std.proofs.lemmas.Option.{slice_get-get_or}
 use Rattle.py_tree.specs.Trees.{Cell}
 use Rattle.graph_meaning.specs.Graph.{numbers_from, all_cells, is_in, parents, edge, is_ready, next_cell, with_next, places}
+use Rattle.graph_meaning.proofs.Orders.{cell_number_below}
 use Rattle.cell_graph.specs.Counts.{list_in, count_of, AreWithin, AreTurned}
 use Rattle.cell_graph.specs.Tables.{AreParents}
 use Rattle.cell_graph.proofs.Numbers.{numbers_alike, find_within, Popped, popped, none_popped}
 use Rattle.cell_graph.proofs.Names.{filter_alike}
-use Rattle.cell_graph.proofs.Tallies.{is_in_push, past_all, none_counted, not_counted, or_false}
+use Rattle.cell_graph.proofs.Tallies.{is_in_push, past_all, none_counted, not_counted, all_from_in, kept_at}
 
 -- how many of these cells aren't listed
 abbrev pub unlisted : List ℕ → List ℕ → ℕ
@@ -69,27 +71,19 @@ no_wait listed cells = sum_by-zero (λ c. cond (not (is_in c listed)) 1 0) cells
     alike (c ∷ cs) = λ i. one (is_in c listed) i && alike cs i
 
 module _ (nb : List Cell) (above : List (List ℕ)) (kept : AreParents nb above) where
-  kept_at : (c : ℕ) → c < length above → list_in above c ≡ parents nb c
-  kept_at c lt = kept.each c (list_in above c) (slice_get-get_or above c [] lt)
-
   pub next_found : (listed waits ready : List ℕ) → IsSwept above listed waits ready
       → next_cell nb listed ≡ find (is_free_of listed waits) (numbers_from 0 above)
   next_found listed waits ready s =
       ap (find (is_ready nb listed)) (sym (numbers_alike 0 above nb kept.count))
       ∙ find_within (is_ready nb listed) (is_free_of listed waits) 0 above
       (λ c low high. ap (λ b. not (is_in c listed) && b)
-      (ap (list_all (λ p. is_in p listed)) (sym (kept_at c (omega arith))) ∙ sym (no_wait listed (list_in above c)) ∙ ap (λ n. n == 0) (sym (s.waiting c))))
+      (ap (list_all (λ p. is_in p listed)) (sym (kept_at nb above kept c (omega arith))) ∙ sym (no_wait listed (list_in above c)) ∙ ap (λ n. n == 0) (sym (s.waiting c))))
 
 -- each parent is a cell
-numbers_below : {X : Type 0} (n : ℕ) (xs : List X) → All (λ c. c < n + length xs) (numbers_from n xs)
-numbers_below n [] k d h = absurd (omega arith)
-numbers_below n (x ∷ xs) zero d h = omega arith
-numbers_below n (x ∷ xs) (suc k) d h = let rest = numbers_below (n + 1) xs k d (omega arith) in omega arith
-
 pub parents_within : (nb : List Cell) (above : List (List ℕ)) → AreParents nb above → AreWithin above
 parents_within nb above kept k d lt =
     subst (All (λ c. c < length above)) (sym (get_or_default above k d [] lt ∙ kept_at nb above kept k lt))
-    (All-filter (λ a. edge nb a k) (λ c. c < length above) (all_cells nb) (λ j e l. omega (arith, numbers_below 0 nb j e l, kept.count)))
+    (All-filter (λ a. edge nb a k) (λ c. c < length above) (all_cells nb) (all_from_in (λ c. c < length above) (all_cells nb) (λ c h. omega (arith, cell_number_below nb c h, kept.count))))
 
 -- ---- a cell more is listed
 
@@ -105,7 +99,7 @@ one_more c listed x off = ⊎_elim
     (λ same.
     listed_now _ _ _ (is_in_push x c listed ∙ or_right _ _ (or_left _ _ (eq-eqb c x (sym same)))) (eq-eqb x c same) (ap (λ d. is_in d listed) same ∙ off))
     (λ apart.
-    as_before _ _ _ (is_in_push x c listed ∙ ap (λ b. is_in x listed || (b || false)) (ne_eqb c x (λ e. apart (sym e))) ∙ or_false (is_in x listed)) (ne_eqb x c apart))
+    as_before _ _ _ (is_in_push x c listed ∙ ap (λ b. is_in x listed || (b || false)) (ne_eqb c x (λ e. apart (sym e))) ∙ or-false (is_in x listed)) (ne_eqb x c apart))
     (cases_eq x c)
 
 -- each list counts the cell as unlisted before, and not after

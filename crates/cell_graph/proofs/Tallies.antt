@@ -1,12 +1,17 @@
 -- Counts in lists of cells.
 use Rattle.std.proofs.Common.{◌≡◌, ℕ, zero, suc, ◌+◌, ◌-◌, ◌<◌, ◌≤◌, Bool, true, false, cond, ◌&&◌, ◌||◌, ◌==◌, ⊎_elim, List, [], ◌∷◌, ◌++◌, length, get_or, set, get_or-set_same, get_or-set_other, take, refl, sym, ap, ◌∙◌, subst, arith}
 use Rattle.std.specs.Prelude.{nat_lt}
+use Rattle.std.specs.List.{All}
+use Rattle.std.proofs.Math.Bool.{or-false}
 use Rattle.std.proofs.lemmas.Bool.{cases_eq, cases_lt, cases_order, eq-eqb, ne_eqb, lt-ltb, le-ltb, or_left, or_right, and_right, and_from, or_parts, or_from, false_from_ne_true}
 use Rattle.std.proofs.lemmas.List.{take_more}
 use Rattle.std.proofs.lemmas.List.Folds.{list_any-append}
 use Rattle.std.proofs.lemmas.List.Sums.{count_by_more_yes, count_by_more_no, sum_by-cons, sum_by-take-le}
-use Rattle.graph_meaning.specs.Graph.{is_in}
+use Rattle.std.proofs.lemmas.Option.{slice_get-get_or}
+use Rattle.py_tree.specs.Trees.{Cell}
+use Rattle.graph_meaning.specs.Graph.{is_in, parents}
 use Rattle.cell_graph.specs.Counts.{list_in, count_of}
+use Rattle.cell_graph.specs.Tables.{AreParents}
 
 -- a cell is counted where it is in the list
 pub none_counted : (c : ℕ) (cells : List ℕ) → is_in c cells ≡ false → count_of c cells ≡ 0
@@ -63,14 +68,25 @@ counts_all above n a d h = ⊎_elim
     (λ past. ap (λ b. cond b (count_of a (list_in above d)) 0) (le-ltb d n past) ∙ ap (count_of a) (sym (past_all above d (omega arith))))
     (cases_lt d n)
 
--- ---- cells that wait
+-- ---- cells in a list
+
+-- a fact of each cell in the list
+pub all_from_in : (P : ℕ → Type 0) (cs : List ℕ) → ((d : ℕ) → is_in d cs ≡ true → P d) → All P cs
+all_from_in P [] each k d lt = absurd (omega arith)
+all_from_in P (c ∷ cs) each zero d lt = each c (or_left _ _ (eq-eqb c c refl))
+all_from_in P (c ∷ cs) each (suc k) d lt = all_from_in P cs (λ e h. each e (or_right (c == e) _ h)) k d (omega arith)
 
 pub is_in_push : (c e : ℕ) (cells : List ℕ) → is_in c (cells ++ e ∷ []) ≡ (is_in c cells || ((e == c) || false))
 is_in_push c e cells = list_any-append (λ d. d == c) cells (e ∷ [])
 
-pub or_false : (b : Bool) → (b || false) ≡ b
-or_false true = refl
-or_false false = refl
+pub is_in_last : (c : ℕ) (cells : List ℕ) → is_in c (cells ++ c ∷ []) ≡ true
+is_in_last c cells = is_in_push c c cells ∙ or_right _ _ (or_left _ _ (eq-eqb c c refl))
+
+-- the list of a cell's parents
+pub kept_at : (nb : List Cell) (lists : List (List ℕ)) → AreParents nb lists → (c : ℕ) → c < length lists → list_in lists c ≡ parents nb c
+kept_at nb lists kept c lt = kept.each c (list_in lists c) (slice_get-get_or lists c [] lt)
+
+-- ---- cells that wait
 
 -- a child that is to be released waits for a parent
 pub still_held : (before waits children : List ℕ) (i : ℕ) → i < length children → ((c : ℕ) → count_of c children ≤ get_or before c 0)
@@ -120,7 +136,7 @@ module _ (waits : List ℕ) (children : List ℕ) (i e : ℕ) (lt : i < length c
     other_alike : (c : ℕ) → (c ≡ e → ⊥) → old c ≡ new c
     other_alike c apart =
         let off : (e == c) ≡ false = ne_eqb e c (λ s. apart (sym s)) in
-        let member : is_in c (take (i + 1) children) ≡ is_in c (take i children) = in_more c ∙ ap (λ b. is_in c (take i children) || (b || false)) off ∙ or_false _ in
+        let member : is_in c (take (i + 1) children) ≡ is_in c (take i children) = in_more c ∙ ap (λ b. is_in c (take i children) || (b || false)) off ∙ or-false _ in
         sym (λ j. p c || (member j && (at_other c apart j == 0)))
 
     old_at_e : old e ≡ (p e || false)
@@ -135,7 +151,7 @@ module _ (waits : List ℕ) (children : List ℕ) (i e : ℕ) (lt : i < length c
     pub freed : (get_or fewer e 0 == 0) ≡ true → (c : ℕ) → (old c || (c == e)) ≡ new c
     freed h c = ⊎_elim
         (λ same. subst (λ (d : ℕ). (old d || (d == e)) ≡ new d) (sym same) (or_right (old e) (e == e) (eq-eqb e e refl) ∙ sym (new_at_e true h ∙ or_right (p e) true refl)))
-        (λ apart. ap (λ b. old c || b) (ne_eqb c e apart) ∙ or_false (old c) ∙ other_alike c apart)
+        (λ apart. ap (λ b. old c || b) (ne_eqb c e apart) ∙ or-false (old c) ∙ other_alike c apart)
         (cases_eq c e)
 
     -- it waits still
@@ -154,18 +170,18 @@ module _ (waits : List ℕ) (cell : ℕ) where
       (λ high. le-ltb q (cell + 1) (omega (arith, apart)) ∙ sym (le-ltb q cell high))
       (cases_lt q cell)
 
-  pub unheld_here : (get_or waits cell 0 == 0) ≡ true → (q : ℕ) → ((nat_lt q cell && (get_or waits q 0 == 0)) || (q == cell)) ≡ (nat_lt q (cell + 1) && (get_or waits q 0 == 0))
-  unheld_here h q = ⊎_elim
+  pub root_here : (get_or waits cell 0 == 0) ≡ true → (q : ℕ) → ((nat_lt q cell && (get_or waits q 0 == 0)) || (q == cell)) ≡ (nat_lt q (cell + 1) && (get_or waits q 0 == 0))
+  root_here h q = ⊎_elim
       (λ same.
       or_right _ _ (eq-eqb q cell same)
       ∙ sym (and_from _ _ (lt-ltb q (cell + 1) (omega arith)) (ap (λ d. get_or waits d 0 == 0) same ∙ h)))
       (λ apart.
-      ap (λ b. (nat_lt q cell && (get_or waits q 0 == 0)) || b) (ne_eqb q cell apart) ∙ or_false _
+      ap (λ b. (nat_lt q cell && (get_or waits q 0 == 0)) || b) (ne_eqb q cell apart) ∙ or-false _
       ∙ ap (λ b. b && (get_or waits q 0 == 0)) (sym (below_next q apart)))
       (cases_eq q cell)
 
-  pub unheld_later : (get_or waits cell 0 == 0) ≡ false → (q : ℕ) → (nat_lt q cell && (get_or waits q 0 == 0)) ≡ (nat_lt q (cell + 1) && (get_or waits q 0 == 0))
-  unheld_later h q = ⊎_elim
+  pub root_later : (get_or waits cell 0 == 0) ≡ false → (q : ℕ) → (nat_lt q cell && (get_or waits q 0 == 0)) ≡ (nat_lt q (cell + 1) && (get_or waits q 0 == 0))
+  root_later h q = ⊎_elim
       (λ same. let off : (get_or waits q 0 == 0) ≡ false = ap (λ d. get_or waits d 0 == 0) same ∙ h in and_right _ _ off ∙ sym (and_right _ _ off))
       (λ apart. ap (λ b. b && (get_or waits q 0 == 0)) (sym (below_next q apart)))
       (cases_eq q cell)

@@ -1,5 +1,5 @@
 // The children of cells, found from their parents.
-ghost use Rattle.std.specs.Prelude.{◌≡◌, ℕ, ◌+◌, ◌^◌, ◌<◌, ◌==◌, [], IfOk, OnOk, length, cond, replicate};
+ghost use Rattle.std.specs.Prelude.{◌≡◌, ℕ, ◌+◌, ◌^◌, ◌<◌, ◌==◌, [], IfOk, OnOk, length, if◌then◌else◌, replicate};
 ghost use Rattle.std.specs.List.{All};
 ghost use Rattle.cell_graph.specs.Counts.{list_in, count_of, AreWithin, AreTurned};
 
@@ -36,7 +36,7 @@ fn add_child(children: &mut [CellList], parents: &[u32], child: u32) -> Result<(
     requires { All (λ p. p < length children.old) parents.now }
     ensures { OnOk result
         ((a d : ℕ) → count_of d (list_in children.new a)
-        ≡ count_of d (list_in children.old a) + cond (child == d) (count_of a parents.now) 0) }
+        ≡ count_of d (list_in children.old a) + (if child == d then count_of a parents.now else 0)) }
 {
     for parent in parents {
         children[*parent as usize].push(child)?;

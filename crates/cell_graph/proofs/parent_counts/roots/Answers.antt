@@ -6,7 +6,7 @@ use Rattle.std.proofs.lemmas.Bool.{eq-eqb, ne_eqb, and_left, lt-ltb, le-ltb}
 use Rattle.graph_meaning.specs.Graph.{numbers_from}
 use Rattle.cell_graph.proofs.Names.{filter_alike}
 use Rattle.cell_graph.proofs.Numbers.{inserted, none_pass, filter_within}
-use Rattle.cell_graph.proofs.Tallies.{unheld_here, unheld_later}
+use Rattle.cell_graph.proofs.Tallies.{root_here, root_later}
 use Rattle.cell_graph.proofs.parent_counts.roots.Goals as goal
 use Rattle.cell_graph.proofs.parent_counts.roots.Goals.{then-counts-cell-eq0+in_ok-insert, else-counts-cell-eq0}
 
@@ -24,10 +24,10 @@ loop-cell-preserved c =
           ap (λ (s : BTreeSet ℕ). s.keys) w.ready-is ∙ w.in_ok-insert.ensures.keys
           ∙ ap (λ ks. insert_key nat_cmp ks cell) c.loop-cell.invariant
           ∙ inserted (λ q. nat_lt q cell && (get_or counts q 0 == 0)) cell 0 counts (omega arith) (omega arith)
-          ∙ filter_alike _ _ (unheld_here counts cell (eq-eqb _ 0 w.if-counts-cell-eq0.true)) (numbers_from 0 counts)
+          ∙ filter_alike _ _ (root_here counts cell (eq-eqb _ 0 w.if-counts-cell-eq0.true)) (numbers_from 0 counts)
       | else-counts-cell-eq0 w ↦
           ap (λ (s : BTreeSet ℕ). s.keys) w.ready-is ∙ c.loop-cell.invariant
-          ∙ filter_alike _ _ (unheld_later counts cell (ne_eqb _ 0 w.if-counts-cell-eq0.false)) (numbers_from 0 counts)
+          ∙ filter_alike _ _ (root_later counts cell (ne_eqb _ 0 w.if-counts-cell-eq0.false)) (numbers_from 0 counts)
     ]
 
 pub returns : goal.returns

@@ -1,12 +1,12 @@
 -- The place of a cell more.
 use Rattle.std.proofs.Common.{◌≡◌, ℕ, ◌<◌, ◌||◌, ◌==◌, Bool, true, false, List, length, get_or, take, refl, sym, ap, ◌∙◌, nat_cmp, arith}
 use Rattle.std.specs.BTreeSet.{insert_key}
+use Rattle.std.proofs.Math.Bool.{or-false}
 use Rattle.std.proofs.lemmas.List.Folds.{list_any_more}
 use Rattle.graph_meaning.specs.Graph.{numbers_from}
 use Rattle.cell_graph.specs.Places.{is_placed}
 use Rattle.cell_graph.proofs.Names.{filter_alike}
 use Rattle.cell_graph.proofs.Numbers.{inserted}
-use Rattle.cell_graph.proofs.Tallies.{or_false}
 use Rattle.cell_graph.proofs.place_set.add_places.Goals as goal
 
 joined : (a b c : Bool) → ((a || b) || c) ≡ (a || (b || c))
@@ -14,7 +14,7 @@ joined true b c = refl
 joined false b c = refl
 
 pub loop-cell-init : goal.loop-cell-init
-loop-cell-init c p h = h ∙ filter_alike p (λ q. p q || false) (λ q. sym (or_false (p q))) (numbers_from 0 c.args.places.now)
+loop-cell-init c p h = h ∙ filter_alike p (λ q. p q || false) (λ q. sym (or-false (p q))) (numbers_from 0 c.args.places.now)
 
 pub loop-cell-preserved : goal.loop-cell-preserved
 loop-cell-preserved c p h =

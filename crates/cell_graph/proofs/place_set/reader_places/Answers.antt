@@ -2,6 +2,7 @@
 use Rattle.std.proofs.Common.{◌≡◌, ℕ, ◌+◌, ◌<◌, ◌||◌, Bool, List, [], length, take, None, Some, refl, sym, ap, ◌∙◌, subst, BTreeSet}
 use Rattle.std.specs.Prelude.{unwrap_or}
 use Rattle.std.specs.List.{list_any, All}
+use Rattle.std.proofs.Math.Bool.{or-false}
 use Rattle.std.proofs.lemmas.List.Folds.{list_any_more}
 use Rattle.py_tree.specs.Names.{Name}
 use Rattle.py_value.specs.Maps.{look_up}
@@ -10,7 +11,6 @@ use Rattle.cell_graph.specs.Places.{is_placed}
 use Rattle.cell_graph.specs.Readers.{cells_at}
 use Rattle.cell_graph.proofs.Names.{filter_alike}
 use Rattle.cell_graph.proofs.Numbers.{none_pass}
-use Rattle.cell_graph.proofs.Tallies.{or_false}
 use Rattle.cell_graph.proofs.place_set.reader_places.Goals as goal
 use Rattle.cell_graph.proofs.place_set.reader_places.Goals.{in-Some+in_ok-add_places, in_default}
 
@@ -46,5 +46,5 @@ loop-name-preserved c =
           let cells : cells_at table x ≡ [] = sym (ap (cells_at table) c.items.ensures) ∙ ap (λ o. unwrap_or o []) none in
           ap (λ (s : BTreeSet ℕ). s.keys) w.pending-is
           ∙ c.loop-name.invariant
-          ∙ filter_alike _ _ (λ q. sym (more q ∙ ap (λ (cs : List ℕ). list_any (λ y. test y q) (take i names) || is_placed places cs q) cells ∙ or_false _)) (numbers_from 0 places)
+          ∙ filter_alike _ _ (λ q. sym (more q ∙ ap (λ (cs : List ℕ). list_any (λ y. test y q) (take i names) || is_placed places cs q) cells ∙ or-false _)) (numbers_from 0 places)
     ]

@@ -13,8 +13,9 @@ use Rattle.cell_graph.specs.Counts.{list_in}
 use Rattle.cell_graph.specs.Places.{is_placed}
 use Rattle.cell_graph.specs.Readers.{cells_at}
 use Rattle.cell_graph.proofs.Spreads.{is_waiting, at_first, same_spread, all_listed, high, few, left_of, spread_more, child_inside}
-use Rattle.cell_graph.proofs.Readings.{all_from_in, reader_inside}
+use Rattle.cell_graph.proofs.Readings.{reader_inside}
 use Rattle.cell_graph.proofs.Standings.{spreads, first_waiting}
+use Rattle.cell_graph.proofs.Tallies.{all_from_in}
 use Rattle.cell_graph.proofs.graph.Notebook.rerun.Goals as goal
 
 is_nil : (xs : List ℕ) → (0 < length xs → ⊥) → xs ≡ []
