@@ -1,19 +1,18 @@
 -- Cells that are marked as those above a cell, and chains that lead to it.
-use Rattle.std.proofs.Common.{◌≡◌, ℕ, ◌+◌, ◌<◌, ◌≤◌, Bool, true, false, cond, not, ◌&&◌, ◌||◌, ◌==◌, ◌⊎◌, inl, inr, ⊎_elim, List, [], ◌∷◌, ◌++◌, length, get_or, take, filter, refl, sym, ap, ◌∙◌, subst, arith}
+use Rattle.std.proofs.Common.{◌≡◌, ℕ, ◌+◌, ◌<◌, ◌≤◌, Bool, true, false, cond, not, ◌&&◌, ◌||◌, ◌⊎◌, inl, inr, ⊎_elim, List, [], ◌∷◌, ◌++◌, length, get_or, take, filter, refl, sym, ap, ◌∙◌, subst, arith}
 use Rattle.std.proofs.Math.Bool.{or-false}
-use Rattle.std.proofs.lemmas.Bool.{both_ways, cases_Bool, cases_eq, cases_lt, eq-eqb, eqb-true, ne_eqb, or_cases, or_left, or_right, and_parts, and_from, not_from_false, false_from_ne_true}
+use Rattle.std.proofs.lemmas.Bool.{both_ways, cases_Bool, cases_eq, cases_lt, ne_eqb, or_cases, or_left, or_right, and_parts, and_from, not_from_false, false_from_ne_true}
 use Rattle.std.proofs.lemmas.List.{take_more, take_all, get_or_past, length-take-le, append-nil}
 use Rattle.std.proofs.lemmas.List.Elements.{filter-append}
-use Rattle.std.proofs.lemmas.Option.{slice_get-get_or}
 use Rattle.py_tree.specs.Trees.{Cell}
-use Rattle.graph_meaning.specs.Graph.{edge, numbers_from, is_in, parents, IsChain, LiesOnCycle, AreCyclic}
+use Rattle.graph_meaning.specs.Graph.{edge, numbers_from, is_in, IsChain, LiesOnCycle, AreCyclic}
 use Rattle.graph_meaning.proofs.Orders.{in_more, in_more_cases, to_cell, on_cycle_below}
 use Rattle.graph_meaning.proofs.Reaching.{parent_by, edge_by}
 use Rattle.cell_graph.specs.Counts.{list_in}
 use Rattle.cell_graph.specs.Tables.{AreParents}
 use Rattle.cell_graph.specs.Marks.{is_marked}
 use Rattle.cell_graph.proofs.Numbers.{numbers_alike, filter_within}
-use Rattle.cell_graph.proofs.Tallies.{is_in_push, past_all, is_in_last, kept_at}
+use Rattle.cell_graph.proofs.Counts.{is_in_push, past_all, is_in_last, kept_at}
 
 -- ---- a cell that is marked
 

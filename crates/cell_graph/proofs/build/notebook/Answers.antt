@@ -13,8 +13,8 @@ use Rattle.cell_graph.specs.Places.{ArePlaced}
 use Rattle.cell_graph.specs.Readers.{HasReaders}
 use Rattle.cell_graph.proofs.Cells.{some_cyclic}
 use Rattle.cell_graph.proofs.Places.{order_fits}
-use Rattle.cell_graph.proofs.Standings.{cells_inside, cells_once, placed}
-use Rattle.cell_graph.proofs.Sweeps.{parents_within}
+use Rattle.cell_graph.proofs.OrderPlaces.{cells_inside, cells_once, placed}
+use Rattle.cell_graph.proofs.OrderSteps.{parents_within}
 use Rattle.cell_graph.proofs.build.notebook.Goals as goal
 
 pub all_children-requires-clause-within : goal.all_children-requires-clause-within

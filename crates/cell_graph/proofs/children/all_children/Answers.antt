@@ -3,7 +3,7 @@ use Rattle.std.proofs.Common.{◌≡◌, ℕ, ◌+◌, ◌++◌, ◌==◌, cond,
 use Rattle.std.proofs.lemmas.Grind.{common_steps}
 use Rattle.std.proofs.lemmas.List.{get_or_default}
 use Rattle.cell_graph.specs.Counts.{list_in, count_of}
-use Rattle.cell_graph.proofs.Tallies.{counts_more, counts_all}
+use Rattle.cell_graph.proofs.Counts.{counts_more, counts_all}
 use Rattle.cell_graph.proofs.children.all_children.Goals as goal
 
 pub loop-cell-preserved : goal.loop-cell-preserved

@@ -9,7 +9,7 @@ use Rattle.std.proofs.lemmas.List.{get_or_default}
 use Rattle.graph_meaning.specs.Graph.{numbers_from, is_in}
 use Rattle.cell_graph.specs.Counts.{list_in, count_of}
 use Rattle.cell_graph.proofs.Numbers.{numbers_alike}
-use Rattle.cell_graph.proofs.Sweeps.{IsSwept, is_free_of, same_sweep, at_first, first, child_held, child_inside, swept_more, place_more, place_none}
+use Rattle.cell_graph.proofs.OrderSteps.{IsSwept, is_free_of, same_sweep, at_first, first, child_held, child_inside, swept_more, place_more, place_none}
 use Rattle.cell_graph.proofs.order.order_of.Goals as goal
 use Rattle.cell_graph.proofs.order.order_of.Goals.{in-Some+in_ok-push+in_ok-release, in_default}
 

@@ -3,7 +3,7 @@ use Rattle.std.proofs.Common.{◌≡◌, List}
 use Rattle.py_tree.specs.Trees.{Cell}
 use Rattle.graph_meaning.specs.Graph.{places}
 use Rattle.cell_graph.specs.Tables.{AreParents}
-use Rattle.cell_graph.proofs.Sweeps.{IsSwept}
+use Rattle.cell_graph.proofs.OrderSteps.{IsSwept}
 use Rattle.cell_graph.proofs.order.order_of.Given as goal
 
 abbrev pub invariant-loop : goal.invariant-loop

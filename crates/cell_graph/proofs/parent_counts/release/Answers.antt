@@ -3,7 +3,7 @@ use Rattle.std.proofs.Common.{ℕ, ◌<◌, ◌≤◌, ◌&&◌, ◌||◌, ◌==
 use Rattle.std.specs.BTreeSet.{insert_key}
 use Rattle.std.proofs.lemmas.Bool.{eq-eqb, ne_eqb}
 use Rattle.graph_meaning.specs.Graph.{numbers_from, is_in}
-use Rattle.cell_graph.proofs.Tallies.{still_held, counted, freed, held_still}
+use Rattle.cell_graph.proofs.Counts.{still_held, counted, freed, held_still}
 use Rattle.cell_graph.proofs.Names.{filter_alike}
 use Rattle.cell_graph.proofs.Numbers.{inserted}
 use Rattle.cell_graph.proofs.parent_counts.release.Goals as goal

@@ -6,7 +6,7 @@ use Rattle.std.proofs.lemmas.Bool.{eq-eqb, ne_eqb, and_left, lt-ltb, le-ltb}
 use Rattle.graph_meaning.specs.Graph.{numbers_from}
 use Rattle.cell_graph.proofs.Names.{filter_alike}
 use Rattle.cell_graph.proofs.Numbers.{inserted, none_pass, filter_within}
-use Rattle.cell_graph.proofs.Tallies.{root_here, root_later}
+use Rattle.cell_graph.proofs.Counts.{root_here, root_later}
 use Rattle.cell_graph.proofs.parent_counts.roots.Goals as goal
 use Rattle.cell_graph.proofs.parent_counts.roots.Goals.{then-counts-cell-eq0+in_ok-insert, else-counts-cell-eq0}
 

@@ -12,10 +12,10 @@ use Rattle.graph_meaning.specs.Reruns.{reads_one, is_within, rerun}
 use Rattle.cell_graph.specs.Counts.{list_in}
 use Rattle.cell_graph.specs.Places.{is_placed}
 use Rattle.cell_graph.specs.Readers.{cells_at}
-use Rattle.cell_graph.proofs.Spreads.{is_waiting, at_first, same_spread, all_listed, high, few, left_of, spread_more, child_inside}
-use Rattle.cell_graph.proofs.Readings.{reader_inside}
-use Rattle.cell_graph.proofs.Standings.{spreads, first_waiting}
-use Rattle.cell_graph.proofs.Tallies.{all_from_in}
+use Rattle.cell_graph.proofs.Reruns.{is_waiting, at_first, same_spread, all_listed, high, few, left_of, spread_more, child_inside}
+use Rattle.cell_graph.proofs.ReaderTable.{reader_inside}
+use Rattle.cell_graph.proofs.OrderPlaces.{spreads, first_waiting}
+use Rattle.cell_graph.proofs.Counts.{all_from_in}
 use Rattle.cell_graph.proofs.graph.Notebook.rerun.Goals as goal
 
 is_nil : (xs : List ℕ) → (0 < length xs → ⊥) → xs ≡ []

@@ -2,7 +2,7 @@
 use Rattle.std.proofs.Common.{◌-◌, length}
 use Rattle.graph_meaning.specs.Reruns.{reads_one, is_within}
 use Rattle.py_tree.specs.View.{view_cells}
-use Rattle.cell_graph.proofs.Spreads.{IsSpread}
+use Rattle.cell_graph.proofs.Reruns.{IsSpread}
 use Rattle.cell_graph.proofs.graph.Notebook.rerun.Given as goal
 
 abbrev pub invariant-loop-place : goal.invariant-loop-place

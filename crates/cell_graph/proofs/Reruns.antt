@@ -12,7 +12,7 @@ use Rattle.graph_meaning.proofs.Reaching.{any_from, some_in, passes, is_kept}
 use Rattle.cell_graph.specs.Counts.{list_in}
 use Rattle.cell_graph.specs.Places.{is_placed, ArePlaced}
 use Rattle.cell_graph.proofs.Numbers.{numbers_alike, filter_within, Popped, popped}
-use Rattle.cell_graph.proofs.Tallies.{past_all}
+use Rattle.cell_graph.proofs.Counts.{past_all}
 
 -- ---- lists of numbers
 

@@ -17,9 +17,9 @@ use Rattle.cell_graph.specs.Readers.{cells_at, HasReaders}
 use Rattle.cell_graph.proofs.Ancestors.{edge_from, in_list}
 use Rattle.cell_graph.proofs.Numbers.{numbers_alike, filter_within}
 use Rattle.cell_graph.proofs.Places.{one_at_most, few_places}
-use Rattle.cell_graph.proofs.Readings.{reader_inside, is_reader, reads_by}
-use Rattle.cell_graph.proofs.Spreads.{Spreads, in_front, placed_in}
-use Rattle.cell_graph.proofs.Tallies.{all_from_in, none_counted, not_counted}
+use Rattle.cell_graph.proofs.ReaderTable.{reader_inside, is_reader, reads_by}
+use Rattle.cell_graph.proofs.Reruns.{Spreads, in_front, placed_in}
+use Rattle.cell_graph.proofs.Counts.{all_from_in, none_counted, not_counted}
 
 -- ---- children
 

@@ -7,15 +7,14 @@ use Rattle.std.proofs.lemmas.List.{length-map, get_or_default}
 use Rattle.std.proofs.lemmas.List.Elements.{All-filter}
 use Rattle.std.proofs.lemmas.List.Folds.{sum_by-zero}
 use Rattle.std.proofs.lemmas.List.Sums.{sum_by-cons, count_by_more_yes, sum_by-take-le}
-use Rattle.std.proofs.lemmas.Option.{slice_get-get_or}
 use Rattle.py_tree.specs.Trees.{Cell}
-use Rattle.graph_meaning.specs.Graph.{numbers_from, all_cells, is_in, parents, edge, is_ready, next_cell, with_next, places}
+use Rattle.graph_meaning.specs.Graph.{numbers_from, all_cells, is_in, edge, is_ready, next_cell, with_next, places}
 use Rattle.graph_meaning.proofs.Orders.{cell_number_below}
 use Rattle.cell_graph.specs.Counts.{list_in, count_of, AreWithin, AreTurned}
 use Rattle.cell_graph.specs.Tables.{AreParents}
 use Rattle.cell_graph.proofs.Numbers.{numbers_alike, find_within, Popped, popped, none_popped}
 use Rattle.cell_graph.proofs.Names.{filter_alike}
-use Rattle.cell_graph.proofs.Tallies.{is_in_push, past_all, none_counted, not_counted, all_from_in, kept_at}
+use Rattle.cell_graph.proofs.Counts.{is_in_push, past_all, none_counted, not_counted, all_from_in, kept_at}
 
 -- how many of these cells aren't listed
 abbrev pub unlisted : List ℕ → List ℕ → ℕ

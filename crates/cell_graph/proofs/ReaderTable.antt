@@ -1,29 +1,28 @@
 -- The table of the cells that reference each name.
-use Rattle.std.proofs.Common.{◌≡◌, ℕ, zero, suc, ◌+◌, ◌<◌, ◌≤◌, Bool, true, false, cond, not, ◌&&◌, ◌||◌, ◌==◌, ⊎_elim, List, [], ◌∷◌, ◌++◌, length, get_or, take, Option, Some, None, slice_get, refl, sym, ap, ◌∙◌, subst, nat_cmp, arith}
+use Rattle.std.proofs.Common.{◌≡◌, ℕ, ◌+◌, ◌<◌, Bool, true, false, cond, not, ◌&&◌, ◌||◌, ◌==◌, List, [], ◌∷◌, ◌++◌, length, get_or, take, Some, None, refl, sym, ap, ◌∙◌, nat_cmp, arith}
 use Rattle.std.specs.Prelude.{unwrap_or}
-use Rattle.std.specs.List.{list_any, All}
+use Rattle.std.specs.List.{list_any}
 use Rattle.std.specs.Str.{bytes_eq}
 use Rattle.std.specs.Ordering.{is_eq}
 use Rattle.std.specs.Cmp.Lexicographic.{slice_cmp}
 use Rattle.std.specs.declared.cmp.Ordering.{Ordering}
 use Rattle.std.specs.declared.cmp.Ordering.TheVariants.{Less, Equal, Greater}
-use Rattle.std.proofs.lemmas.Bool.{both_ways, cases_lt, eq-eqb, or_left, or_right}
+use Rattle.std.proofs.lemmas.Bool.{both_ways}
 use Rattle.std.proofs.lemmas.List.{take_more}
 use Rattle.std.proofs.lemmas.Map.Text.{is_eq-slice_cmp}
-use Rattle.std.proofs.lemmas.Option.{slice_get-get_or, slice_get_past}
 use Rattle.std.proofs.lemmas.Slice.Eq.{bytes_eq-Decides}
 use Rattle.py_tree.specs.Names.{Name, is_among}
 use Rattle.py_tree.specs.Scope.{refs}
 use Rattle.py_tree.specs.Trees.{Cell}
 use Rattle.py_tree.proofs.NamesOf.{among_append}
 use Rattle.py_value.specs.Maps.{Map, look_up, put, put_by, where_name}
-use Rattle.graph_meaning.specs.Graph.{is_in, names_at, refs_of}
+use Rattle.graph_meaning.specs.Graph.{is_in, refs_of}
 use Rattle.graph_meaning.specs.Reruns.{reads_one}
 use Rattle.cell_graph.specs.Tables.{AreRefs}
 use Rattle.cell_graph.specs.Readers.{cells_at, HasReaders}
 use Rattle.cell_graph.proofs.LookUps.{within, names_kept}
 use Rattle.cell_graph.proofs.Names.{same_either_way}
-use Rattle.cell_graph.proofs.Tallies.{is_in_push}
+use Rattle.cell_graph.proofs.Counts.{is_in_push}
 
 -- ---- look-ups after a change
 
