@@ -1,18 +1,18 @@
 -- Cells that are marked as those above a cell, and chains that lead to it.
-use Rattle.std.proofs.Common.{◌≡◌, ℕ, ◌+◌, ◌<◌, ◌≤◌, Bool, true, false, cond, not, ◌&&◌, ◌||◌, ◌==◌, ◌⊎◌, inl, inr, ⊎_elim, List, [], ◌∷◌, ◌++◌, length, get_or, take, filter, refl, sym, ap, ◌∙◌, subst, arith}
-use Rattle.std.proofs.lemmas.Bool.{both_ways, cases_Bool, cases_eq, cases_lt, eq-eqb, eqb-true, ne_eqb, or_cases, or_left, or_right, and_parts, and_from, not_from_false, false_from_ne_true}
+use Rattle.std.proofs.Common.{◌≡◌, ℕ, ◌+◌, ◌<◌, ◌≤◌, Bool, true, false, cond, not, ◌&&◌, ◌||◌, ◌⊎◌, inl, inr, ⊎_elim, List, [], ◌∷◌, ◌++◌, length, get_or, take, filter, refl, sym, ap, ◌∙◌, subst, arith}
+use Rattle.std.proofs.Math.Bool.{or-false}
+use Rattle.std.proofs.lemmas.Bool.{both_ways, cases_Bool, cases_eq, cases_lt, ne_eqb, or_cases, or_left, or_right, and_parts, and_from, not_from_false, false_from_ne_true}
 use Rattle.std.proofs.lemmas.List.{take_more, take_all, get_or_past, length-take-le, append-nil}
 use Rattle.std.proofs.lemmas.List.Elements.{filter-append}
-use Rattle.std.proofs.lemmas.Option.{slice_get-get_or}
 use Rattle.py_tree.specs.Trees.{Cell}
-use Rattle.graph_meaning.specs.Graph.{edge, numbers_from, is_in, parents, IsChain, LiesOnCycle, AreCyclic}
-use Rattle.graph_meaning.proofs.Orders.{to_cell, on_cycle_below}
+use Rattle.graph_meaning.specs.Graph.{edge, numbers_from, is_in, IsChain, LiesOnCycle, AreCyclic}
+use Rattle.graph_meaning.proofs.Orders.{in_more, in_more_cases, to_cell, on_cycle_below}
 use Rattle.graph_meaning.proofs.Reaching.{parent_by, edge_by}
 use Rattle.cell_graph.specs.Counts.{list_in}
-use Rattle.cell_graph.specs.Kept.{AreParents}
+use Rattle.cell_graph.specs.Tables.{AreParents}
 use Rattle.cell_graph.specs.Marks.{is_marked}
 use Rattle.cell_graph.proofs.Numbers.{numbers_alike, filter_within}
-use Rattle.cell_graph.proofs.Tallies.{is_in_push, or_false, past_all}
+use Rattle.cell_graph.proofs.Counts.{is_in_push, past_all, is_in_last, kept_at}
 
 -- ---- a cell that is marked
 
@@ -50,12 +50,9 @@ complete above c marked s (b ∷ bs) d leads = ⊎_elim
 
 -- a cell is looked at: those in its list are marked
 module _ (above : List (List ℕ)) (c : ℕ) (marked : List Bool) (rest : List ℕ) (a : ℕ) (s : IsSearched above c marked (rest ++ a ∷ [])) where
-  last_in : is_in a (rest ++ a ∷ []) ≡ true
-  last_in = is_in_push a a rest ∙ or_right _ _ (or_left _ _ (eq-eqb a a refl))
-
   -- it is one of those that are marked
   pub was_marked : is_marked marked a ≡ true
-  was_marked = s.waiting a last_in
+  was_marked = s.waiting a (is_in_last a rest)
 
   module _ (new : List Bool) (pending : List ℕ) (size : length new ≡ length marked)
       (marks : (d : ℕ) → is_marked new d ≡ (is_marked marked d || is_in d (list_in above a)))
@@ -66,18 +63,12 @@ module _ (above : List (List ℕ)) (c : ℕ) (marked : List Bool) (rest : List �
     now_on : (d : ℕ) → is_in d (list_in above a) ≡ true → is_marked new d ≡ true
     now_on d h = marks d ∙ or_right (is_marked marked d) _ h
 
-    still_in : (d : ℕ) → is_in d rest ≡ true → is_in d (rest ++ a ∷ []) ≡ true
-    still_in d h = is_in_push d a rest ∙ or_left _ _ h
-
     closed_at : (d e : ℕ) → is_in d (list_in above e) ≡ true → is_in e (rest ++ a ∷ []) ≡ true
         → (is_marked new d ≡ true) ⊎ (is_in e pending ≡ true)
     closed_at d e there left = ⊎_elim
         (λ before. inr (added e ∙ or_left _ _ before))
-        (λ last. ⊎_elim
-        (λ same. inl (now_on d (ap (λ n. is_in d (list_in above n)) (eqb-true a e same) ∙ there)))
-        (λ off. absurd (both_ways false refl off))
-        (or_cases (a == e) false last))
-        (or_cases (is_in e rest) _ (sym (is_in_push e a rest) ∙ left))
+        (λ last. inl (now_on d (ap (λ n. is_in d (list_in above n)) last ∙ there)))
+        (in_more_cases e a rest left)
 
     pub search_more : IsSearched above c new pending
     search_more = record {
@@ -87,7 +78,7 @@ module _ (above : List (List ℕ)) (c : ℕ) (marked : List Bool) (rest : List �
           (λ there. let steps = s.sound a was_marked in (a ∷ steps.0, (there, steps.1)))
           (or_cases (is_marked marked d) _ (sym (marks d) ∙ h));
       waiting = λ d h. ⊎_elim
-          (λ before. kept_on d (s.waiting d (still_in d before)))
+          (λ before. kept_on d (s.waiting d (in_more d a rest before)))
           (λ there. now_on d (and_parts (is_in d (list_in above a)) _ there).0)
           (or_cases (is_in d rest) _ (sym (added d) ∙ h));
       first = λ d h. kept_on d (s.first d h);
@@ -106,18 +97,15 @@ module _ (above : List (List ℕ)) (c : ℕ) (marked : List Bool) (rest : List �
 -- ---- chains of cells
 
 module _ (nb : List Cell) (above : List (List ℕ)) (kept : AreParents nb above) where
-  kept_at : (c : ℕ) → c < length above → list_in above c ≡ parents nb c
-  kept_at c lt = kept.each c (list_in above c) (slice_get-get_or above c [] lt)
-
   -- the cells in the lists are those from which edges go
   pub edge_from : (a b : ℕ) → is_in a (list_in above b) ≡ true → edge nb a b ≡ true
   edge_from a b h = ⊎_elim
-      (λ below. edge_by nb a b (sym (ap (is_in a) (kept_at b below)) ∙ h))
+      (λ below. edge_by nb a b (sym (ap (is_in a) (kept_at nb above kept b below)) ∙ h))
       (λ past. absurd (both_ways false refl (sym (ap (is_in a) (past_all above b past)) ∙ h)))
       (cases_lt b (length above))
 
   pub in_list : (a b : ℕ) → edge nb a b ≡ true → is_in a (list_in above b) ≡ true
-  in_list a b h = let low = to_cell nb a b h in ap (is_in a) (kept_at b (omega (arith, kept.count))) ∙ parent_by nb a b h
+  in_list a b h = let low = to_cell nb a b h in ap (is_in a) (kept_at nb above kept b (omega (arith, kept.count))) ∙ parent_by nb a b h
 
   chain_from : (a : ℕ) (between : List ℕ) (c : ℕ) → Leads above a between c → IsChain nb (a ∷ between ++ c ∷ [])
   chain_from a [] c leads = (edge_from a c leads, tt)
@@ -162,31 +150,22 @@ module _ (nb : List Cell) (above : List (List ℕ)) (n : ℕ) (lt : n < length a
   split : (p : ℕ → Bool) → filter p (numbers_from 0 (take (n + 1) above)) ≡ filter p (numbers_from 0 (take n above)) ++ filter p (n ∷ [])
   split p = ap (filter p) numbers_more ∙ filter-append p (numbers_from 0 (take n above)) (n ∷ [])
 
-  itself : is_in n (cells ++ n ∷ []) ≡ true
-  itself = is_in_push n n cells ∙ or_right _ _ (or_left _ _ (eq-eqb n n refl))
-
-  in_longer : (c : ℕ) → is_in c (cells ++ n ∷ []) ≡ true → (is_in c cells ≡ true) ⊎ (n ≡ c)
-  in_longer c h = ⊎_elim
-      (λ before. inl before)
-      (λ last. ⊎_elim (λ same. inr (eqb-true n c same)) (λ off. absurd (both_ways false refl off)) (or_cases (n == c) false last))
-      (or_cases (is_in c cells) _ (sym (is_in_push c n cells) ∙ h))
-
   lower : (d : ℕ) → 0 ≤ d → d < 0 + length (take n above) → is_in d (cells ++ n ∷ []) ≡ is_in d cells
   lower d low high =
-      is_in_push d n cells ∙ ap (λ b. is_in d cells || (b || false)) (ne_eqb n d (λ e. omega (arith, e, long, high))) ∙ or_false (is_in d cells)
+      is_in_push d n cells ∙ ap (λ b. is_in d cells || (b || false)) (ne_eqb n d (λ e. omega (arith, e, long, high))) ∙ or-false (is_in d cells)
 
   -- the next cell lies on one too
   pub found_more : LiesOnCycle nb n → AreFound nb above (n + 1) (cells ++ n ∷ [])
   found_more cycle = record {
-    low = λ c h. ⊎_elim (λ before. let b = so_far.low c before in omega arith) (λ same. omega arith) (in_longer c h);
-    each = λ c h. ⊎_elim (λ before. so_far.each c before) (λ same. subst (LiesOnCycle nb) same cycle) (in_longer c h);
+    low = λ c h. ⊎_elim (λ before. let b = so_far.low c before in omega arith) (λ same. omega arith) (in_more_cases c n cells h);
+    each = λ c h. ⊎_elim (λ before. so_far.each c before) (λ same. subst (LiesOnCycle nb) same cycle) (in_more_cases c n cells h);
     every = λ c below on. ⊎_elim
-        (λ same. ap (λ d. is_in d (cells ++ n ∷ [])) (sym same) ∙ itself)
-        (λ apart. is_in_push c n cells ∙ or_left _ _ (so_far.every c (omega arith) on))
+        (λ same. ap (λ d. is_in d (cells ++ n ∷ [])) (sym same) ∙ is_in_last n cells)
+        (λ apart. in_more c n cells (so_far.every c (omega arith) on))
         (cases_eq n c);
     rising =
         ap (λ ks. ks ++ n ∷ []) (so_far.rising ∙ sym (filter_within (λ c. is_in c (cells ++ n ∷ [])) (λ c. is_in c cells) 0 (take n above) lower))
-        ∙ ap (λ b. filter (λ c. is_in c (cells ++ n ∷ [])) (numbers_from 0 (take n above)) ++ cond b (n ∷ []) []) (sym itself)
+        ∙ ap (λ b. filter (λ c. is_in c (cells ++ n ∷ [])) (numbers_from 0 (take n above)) ++ cond b (n ∷ []) []) (sym (is_in_last n cells))
         ∙ sym (split (λ c. is_in c (cells ++ n ∷ [])));
   }
 

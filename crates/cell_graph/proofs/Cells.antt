@@ -1,21 +1,19 @@
 -- Lists of the names that cells define, and the graph of these cells.
-use Rattle.std.proofs.Common.{◌≡◌, ℕ, zero, suc, ◌+◌, ◌<◌, ◌≤◌, Bool, true, false, cond, ◌&&◌, ⊎_elim, List, [], ◌∷◌, ◌++◌, length, map, filter, find, Option, Some, None, slice_get, get_or, take, refl, sym, ap, ◌∙◌, subst, arith}
+use Rattle.std.proofs.Common.{◌≡◌, ℕ, zero, suc, ◌+◌, ◌<◌, ◌≤◌, Bool, true, false, cond, ◌&&◌, ⊎_elim, List, [], ◌∷◌, ◌++◌, length, map, filter, find, Option, Some, None, slice_get, get_or, take, refl, sym, ap, ◌∙◌, arith}
 use Rattle.std.specs.Prelude.{nat_lt}
-use Rattle.std.specs.Option.{unwrap_or}
 use Rattle.std.specs.List.{list_any}
 use Rattle.std.specs.Str.{bytes_eq}
-use Rattle.std.proofs.lemmas.Bool.{both_ways, cases_Bool, cases_lt, cases_eq, and_parts, and_from, or_cases, or_left, or_right, false_from_ne_true, lt-ltb, ltb-true}
+use Rattle.std.proofs.lemmas.Bool.{both_ways, cases_Bool, cases_eq, and_parts, and_from, or_cases, or_left, or_right, false_from_ne_true, lt-ltb, ltb-true}
 use Rattle.std.proofs.lemmas.List.{length-map, length_push, length-append}
-use Rattle.std.proofs.lemmas.Option.{slice_get-get_or, slice_get_past}
-use Rattle.std.proofs.lemmas.Slice.Eq.{bytes_eq-Decides}
 use Rattle.py_tree.specs.Names.{Name, is_among}
 use Rattle.py_tree.specs.Scope.{defs}
 use Rattle.py_tree.specs.Trees.{Cell}
-use Rattle.graph_meaning.specs.Graph.{names_at, defs_of, refs_of, numbers_from, all_cells, parents, order, defined_before, IsDoubled, NoneDoubled, AreCyclic}
-use Rattle.graph_meaning.proofs.Orders.{short_is_cyclic}
+use Rattle.graph_meaning.specs.Graph.{defs_of, refs_of, numbers_from, all_cells, parents, order, defined_before, IsDoubled, NoneDoubled, AreCyclic}
+use Rattle.graph_meaning.proofs.Orders.{is_cell_number, short_is_cyclic}
+use Rattle.graph_meaning.proofs.Reaching.{any_from}
 use Rattle.cell_graph.specs.Definers.{names_in, FindsLists, lists_with}
-use Rattle.cell_graph.specs.Kept.{AreDefs, AreRefs, AreParents}
-use Rattle.cell_graph.proofs.LookUps.{in_earlier, in_next, within}
+use Rattle.cell_graph.specs.Tables.{AreDefs, AreRefs, AreParents}
+use Rattle.cell_graph.proofs.LookUps.{in_earlier, in_next, within, names_kept, is_itself}
 use Rattle.cell_graph.proofs.Names.{filter_alike}
 use Rattle.cell_graph.proofs.Numbers.{numbers_alike}
 
@@ -30,9 +28,6 @@ map_at f (x ∷ xs) (suc c) y h = map_at f xs c y h
 some_passes : {X : Type 0} (p : X → Bool) (xs : List X) → list_any p xs ≡ true → (x : X) × (p x ≡ true)
 some_passes p [] h = absurd (both_ways false refl h)
 some_passes p (x ∷ xs) h = ⊎_elim (λ here. (x, here)) (λ later. some_passes p xs later) (or_cases (p x) _ h)
-
-is_itself : (x : Name) → bytes_eq x x ≡ true
-is_itself x = (bytes_eq-Decides x x).1 refl
 
 -- no name passes, and none is found
 none_found : (p : Name → Bool) (names : List Name) → ((x : Name) → is_among x names ≡ true → p x ≡ false) → find p names ≡ None
@@ -66,25 +61,10 @@ least p n (x ∷ xs) a low high on off = ⊎_elim
     ∙ least p (n + 1) xs a (omega (arith, apart)) (omega arith) on off)
     (cases_eq n a)
 
--- a test of a number is passed where the number is in the list
-numbered : {X : Type 0} (p : ℕ → Bool) (n : ℕ) (xs : List X) (a : ℕ) → n ≤ a → a < n + length xs → p a ≡ true → list_any p (numbers_from n xs) ≡ true
-numbered p n [] a low high h = absurd (omega arith)
-numbered p n (x ∷ xs) a low high h = ⊎_elim
-    (λ e. or_left _ _ (ap p e ∙ h))
-    (λ apart. or_right (p n) _ (numbered p (n + 1) xs a (omega arith) (omega arith) h))
-    (cases_eq n a)
-
 -- what is kept of the names that cells define
 module _ (nb : List Cell) (defined : List (List Name)) (kept : AreDefs nb defined) where
-  same_at : (o : Option (List Name)) (c : ℕ) → slice_get defined c ≡ o → unwrap_or o [] ≡ defs_of nb c
-  same_at (Some names) c h = kept.each c names h
-  same_at None c h = ⊎_elim
-      (λ below. let bad : None ≡ Some (get_or defined c []) = sym h ∙ slice_get-get_or defined c [] below in absurd cc)
-      (λ past. sym (ap (names_at defs) (slice_get_past nb c (subst (λ (n : ℕ). n ≤ c) kept.count past))))
-      (cases_lt c (length defined))
-
   pub same_names : (c : ℕ) → names_in defined c ≡ defs_of nb c
-  same_names c = same_at (slice_get defined c) c refl
+  same_names = names_kept defs nb defined kept
 
   -- the lists in which a referenced name stands are the parents
   pub same_parents : (c : ℕ) → lists_with defined (refs_of nb c) ≡ parents nb c
@@ -156,7 +136,7 @@ module _ (nb : List Cell) (lists later : List (List Name)) (names : List Name) (
 
     before_here : defined_before nb (length lists) x ≡ true
     before_here =
-        numbered (λ d. nat_lt d (length lists) && is_among x (defs_of nb d)) 0 nb a (omega arith) (omega (arith, fits))
+        any_from (λ d. nat_lt d (length lists) && is_among x (defs_of nb d)) (all_cells nb) a (is_cell_number nb a fits)
         (and_from _ _ (lt-ltb a (length lists) low) defined_there)
 
     pub doubled : IsDoubled nb x a (length lists)

@@ -1,15 +1,21 @@
 -- Look-ups that find the list in which a name stands.
-use Rattle.std.proofs.Common.{◌≡◌, ℕ, zero, suc, ◌<◌, ◌≤◌, Bool, true, false, cond, ◌||◌, ◌==◌, ◌⊎◌, inl, inr, ⊎_elim, List, [], ◌∷◌, ◌++◌, length, Option, Some, None, refl, sym, ap, ◌∙◌, arith}
+use Rattle.std.proofs.Common.{◌≡◌, ℕ, zero, suc, ◌<◌, ◌≤◌, Bool, true, false, cond, ◌||◌, ◌==◌, ◌⊎◌, inl, inr, ⊎_elim, List, [], ◌∷◌, ◌++◌, length, Option, Some, None, slice_get, get_or, refl, sym, ap, ◌∙◌, subst, arith}
+use Rattle.std.specs.Prelude.{unwrap_or}
 use Rattle.std.specs.BTreeSet.{insert_key}
 use Rattle.std.specs.Ordering.{nat_cmp}
 use Rattle.std.specs.List.{list_any}
 use Rattle.std.specs.Str.{bytes_eq}
+use Rattle.std.proofs.Math.Bool.{or-false}
 use Rattle.std.proofs.lemmas.Bool.{both_ways, cases_Bool, cases_lt, cases_order, eq-eqb, ne_eqb, or_cases, or_left, or_right, false_from_ne_true}
 use Rattle.std.proofs.lemmas.List.Folds.{list_any-append}
+use Rattle.std.proofs.lemmas.Option.{slice_get-get_or, slice_get_past}
 use Rattle.std.proofs.lemmas.Slice.Eq.{bytes_eq-Decides}
 use Rattle.py_tree.specs.Names.{Name, is_among}
-use Rattle.graph_meaning.specs.Graph.{numbers_from}
+use Rattle.py_tree.specs.Trees.{Cell}
+use Rattle.py_tree.proofs.NamesOf.{among_append}
+use Rattle.graph_meaning.specs.Graph.{names_at, numbers_from}
 use Rattle.cell_graph.specs.Definers.{names_in, FindsLists, lists_with}
+use Rattle.cell_graph.specs.Tables.{AreNames}
 use Rattle.cell_graph.proofs.Names.{filter_alike}
 use Rattle.cell_graph.proofs.Numbers.{inserted}
 
@@ -42,10 +48,23 @@ within lists x a h = ⊎_elim
     (λ past. absurd (both_ways false refl (sym (ap (is_among x) (nowhere lists a past)) ∙ h)))
     (cases_lt a (length lists))
 
-pub among_last : (x y : Name) (xs : List Name) → is_among y (xs ++ x ∷ []) ≡ (is_among y xs || (bytes_eq x y || false))
-among_last x y xs = list_any-append (λ o. bytes_eq o y) xs (x ∷ [])
+-- ---- the names that cells have by f
 
-is_itself : (x : Name) → bytes_eq x x ≡ true
+pub names_kept : (f : Cell → List Name) (nb : List Cell) (lists : List (List Name)) → AreNames (λ cells c. names_at f (slice_get cells c)) nb lists
+    → (c : ℕ) → names_in lists c ≡ names_at f (slice_get nb c)
+names_kept f nb lists kept c = by (slice_get lists c) refl
+  where
+    by : (o : Option (List Name)) → slice_get lists c ≡ o → unwrap_or o [] ≡ names_at f (slice_get nb c)
+    by (Some names) h = kept.each c names h
+    by None h = ⊎_elim
+        (λ below. let bad : None ≡ Some (get_or lists c []) = sym h ∙ slice_get-get_or lists c [] below in absurd cc)
+        (λ past. sym (ap (names_at f) (slice_get_past nb c (subst (λ (n : ℕ). n ≤ c) kept.count past))))
+        (cases_lt c (length lists))
+
+-- ---- look-ups
+
+-- a name that the test takes for itself
+pub is_itself : (x : Name) → bytes_eq x x ≡ true
 is_itself x = (bytes_eq-Decides x x).1 refl
 
 same_names : (lists : List (List Name)) (a : ℕ) → names_in (lists ++ [] ∷ []) a ≡ names_in lists a
@@ -78,7 +97,7 @@ module _ (lists : List (List Name)) (names : List Name) (x : Name) (at : Name �
   still q a h = ⊎_elim
       (λ here.
       let before : is_among q names ≡ true = sym (ap (is_among q) (ap (names_in old) here ∙ in_next lists names [])) ∙ h in
-      ap (is_among q) (ap (names_in new) here ∙ in_next lists (names ++ x ∷ []) []) ∙ among_last x q names ∙ or_left _ _ before)
+      ap (is_among q) (ap (names_in new) here ∙ in_next lists (names ++ x ∷ []) []) ∙ among_append q names (x ∷ []) ∙ or_left _ _ before)
       (λ apart. ⊎_elim
       (λ below. ap (is_among q) (in_earlier lists ((names ++ x ∷ []) ∷ []) a below ∙ sym (in_earlier lists (names ∷ []) a below)) ∙ h)
       (λ above. absurd (both_ways false refl (sym (ap (is_among q) (in_none lists names a above)) ∙ h)))
@@ -90,7 +109,7 @@ module _ (lists : List (List Name)) (names : List Name) (x : Name) (at : Name �
   was q a h = ⊎_elim
       (λ here.
       let among : (is_among q names || (bytes_eq x q || false)) ≡ true =
-      sym (among_last x q names) ∙ sym (ap (is_among q) (ap (names_in new) here ∙ in_next lists (names ++ x ∷ []) [])) ∙ h in
+      sym (among_append q names (x ∷ [])) ∙ sym (ap (is_among q) (ap (names_in new) here ∙ in_next lists (names ++ x ∷ []) [])) ∙ h in
       ⊎_elim
       (λ before. inl (ap (is_among q) (ap (names_in old) here ∙ in_next lists names []) ∙ before))
       (λ now. ⊎_elim (λ e. inr (e, here)) (λ off. absurd (both_ways false refl off)) (or_cases (bytes_eq x q) false now))
@@ -113,7 +132,7 @@ module _ (lists : List (List Name)) (names : List Name) (x : Name) (at : Name �
       by : (b : Bool) (q : Name) → bytes_eq x q ≡ b → (a : ℕ) → cond b (Some (length lists)) (at q) ≡ Some a → is_among q (names_in new a) ≡ true
       by true q e a h =
           let here : a ≡ length lists = cc in
-          ap (is_among q) (ap (names_in new) here ∙ in_next lists (names ++ x ∷ []) []) ∙ among_last x q names ∙ or_right _ _ (or_left _ _ e)
+          ap (is_among q) (ap (names_in new) here ∙ in_next lists (names ++ x ∷ []) []) ∙ among_append q names (x ∷ []) ∙ or_right _ _ (or_left _ _ e)
       by false q e a h = still q a (f.stands q a h)
 
       kept : (q : Name) (a : ℕ) → at q ≡ Some a → at_new q ≡ Some a
@@ -140,14 +159,10 @@ module _ (lists : List (List Name)) (at : Name → Option ℕ) (f : FindsLists l
 
   -- a name that stands in none adds none
   pub with_none : at x ≡ None → lists_with lists names ≡ lists_with lists (names ++ x ∷ [])
-  with_none none = filter_alike _ _ (λ a. sym (one_more a ∙ ap (λ b. list_any (λ y. is_among y (names_in lists a)) names || (b || false)) (absent a) ∙ or_false _)) (numbers_from 0 lists)
+  with_none none = filter_alike _ _ (λ a. sym (one_more a ∙ ap (λ b. list_any (λ y. is_among y (names_in lists a)) names || (b || false)) (absent a) ∙ or-false _)) (numbers_from 0 lists)
     where
       absent : (a : ℕ) → is_among x (names_in lists a) ≡ false
       absent a = false_from_ne_true _ (λ h. let bad : None ≡ Some a = sym none ∙ f.finds x a h in cc)
-
-      or_false : (b : Bool) → (b || false) ≡ b
-      or_false true = refl
-      or_false false = refl
 
   -- and one that stands in a list adds that
   pub with_one : (k : ℕ) → at x ≡ Some k → insert_key nat_cmp (lists_with lists names) k ≡ lists_with lists (names ++ x ∷ [])

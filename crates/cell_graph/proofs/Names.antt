@@ -6,7 +6,7 @@ use Rattle.std.specs.Cmp.Lexicographic.{nat_list_eq_equiv}
 use Rattle.std.proofs.lemmas.List.Folds.{list_any-append}
 use Rattle.std.proofs.lemmas.Slice.Eq.{bytes_eq-Decides}
 use Rattle.py_tree.specs.Names.{Name, is_among, first_seen, first_seen_after}
-use Rattle.cell_graph.specs.Borrowed.{texts}
+use Rattle.cell_graph.specs.Texts.{texts}
 
 pub same_either_way : (x y : Name) → bytes_eq x y ≡ bytes_eq y x
 same_either_way x y = nat_list_eq_equiv.symm x y

@@ -3,9 +3,9 @@ ghost use Rattle.std.specs.Prelude.{◌≡◌, IfOk};
 ghost use Rattle.py_tree.specs.Scope as scope;
 ghost use Rattle.py_tree.specs.View.{view_cell};
 
-use crate::free::{is_free, is_local};
+use crate::free_names::{is_free, is_local};
 use crate::name_set::{lines_of, set_of};
-use crate::occurrences::{add_bound, add_read};
+use crate::scope::{add_bound, add_read};
 use py_tree::CellCode;
 use py_value::{Lines, Memory};
 use std::alloc::Global;

@@ -1,5 +1,5 @@
-// The children of cells.
-ghost use Rattle.std.specs.Prelude.{◌≡◌, ℕ, ◌+◌, ◌^◌, ◌<◌, ◌==◌, [], IfOk, OnOk, length, cond, replicate};
+// The children of cells, found from their parents.
+ghost use Rattle.std.specs.Prelude.{◌≡◌, ℕ, ◌+◌, ◌^◌, ◌<◌, ◌==◌, [], IfOk, OnOk, length, if◌then◌else◌, replicate};
 ghost use Rattle.std.specs.List.{All};
 ghost use Rattle.cell_graph.specs.Counts.{list_in, count_of, AreWithin, AreTurned};
 
@@ -8,16 +8,16 @@ use py_value::Memory;
 use std::alloc::Global;
 
 // For each cell the cells of which it is a parent.
-pub(crate) fn children(alloc: Global, above: &[CellList]) -> Result<Vec<CellList>, Memory>
-    requires few { length above.now < 2 ^ 32 }
-    requires within { AreWithin above.now }
-    ensures { IfOk result (λ below. AreTurned above.now below.items) }
+pub(crate) fn all_children(alloc: Global, parents: &[CellList]) -> Result<Vec<CellList>, Memory>
+    requires few { length parents.now < 2 ^ 32 }
+    requires within { AreWithin parents.now }
+    ensures { IfOk result (λ children. AreTurned parents.now children.items) }
 {
-    let mut below = empty_lists(alloc, above.len())?;
-    for cell in 0..above.len() {
-        add_child(below.as_mut_slice(), above[cell].items(), cell as u32)?;
+    let mut children = empty_lists(alloc, parents.len())?;
+    for cell in 0..parents.len() {
+        add_child(children.as_mut_slice(), parents[cell].items(), cell as u32)?;
     }
-    Ok(below)
+    Ok(children)
 }
 
 // So many lists with no cells.
@@ -32,14 +32,14 @@ fn empty_lists(alloc: Global, count: usize) -> Result<Vec<CellList>, Memory>
 }
 
 // Adds a child to each of its parents.
-fn add_child(below: &mut [CellList], parents: &[u32], child: u32) -> Result<(), Memory>
-    requires { All (λ p. p < length below.old) parents.now }
+fn add_child(children: &mut [CellList], parents: &[u32], child: u32) -> Result<(), Memory>
+    requires { All (λ p. p < length children.old) parents.now }
     ensures { OnOk result
-        ((a d : ℕ) → count_of d (list_in below.new a)
-        ≡ count_of d (list_in below.old a) + cond (child == d) (count_of a parents.now) 0) }
+        ((a d : ℕ) → count_of d (list_in children.new a)
+        ≡ count_of d (list_in children.old a) + (if child == d then count_of a parents.now else 0)) }
 {
     for parent in parents {
-        below[*parent as usize].push(child)?;
+        children[*parent as usize].push(child)?;
     }
     Ok(())
 }

@@ -2,7 +2,7 @@
 ghost use Rattle.std.specs.Prelude.{◌≡◌, ℕ, ◌+◌, ◌^◌, ◌<◌, ◌&&◌, ◌||◌, not, true, false, List, IfOk, OnOk, length};
 ghost use Rattle.std.specs.List.{All, count_by};
 ghost use Rattle.cell_graph.specs.Counts.{AreWithin};
-ghost use Rattle.cell_graph.specs.Kept.{AreParents};
+ghost use Rattle.cell_graph.specs.Tables.{AreParents};
 ghost use Rattle.cell_graph.specs.Marks.{is_marked};
 ghost use Rattle.graph_meaning.specs.Graph.{is_in, LiesOnCycle, AreCyclic};
 ghost use Rattle.py_tree.specs.Trees.{Cell};
@@ -10,6 +10,22 @@ ghost use Rattle.py_tree.specs.Trees.{Cell};
 use crate::cell_list::CellList;
 use py_value::Memory;
 use std::alloc::Global;
+
+// The cells that lie on a cycle, in file order. For each cell those above it are looked at once, with their parents.
+pub(crate) fn cyclic_cells(alloc: Global, parents: &[CellList]) -> Result<CellList, Memory>
+    requires few { length parents.now < 2 ^ 32 }
+    requires within { AreWithin parents.now }
+    ensures { IfOk result
+        (λ cells. (nb : List Cell) → AreParents nb parents.now → AreCyclic nb cells) }
+{
+    let mut cells = Vec::new(alloc);
+    for cell in 0..parents.len() {
+        if lies_on_cycle(alloc, parents, cell as u32)? {
+            cells.push(cell as u32)?;
+        }
+    }
+    Ok(CellList::of(cells))
+}
 
 // Marks those of these cells that aren't marked yet, and adds them to those to look at.
 fn mark(marked: &mut [bool], pending: &mut Vec<u32>, cells: &[u32]) -> Result<(), Memory>
@@ -33,44 +49,28 @@ fn mark(marked: &mut [bool], pending: &mut Vec<u32>, cells: &[u32]) -> Result<()
 }
 
 // Whether the cell lies on a cycle: its parents, their parents and so on are marked, and each of them is looked at once.
-fn lies_on_cycle(alloc: Global, above: &[CellList], cell: u32) -> Result<bool, Memory>
-    requires within { AreWithin above.now }
-    requires there { cell < length above.now }
+fn lies_on_cycle(alloc: Global, parents: &[CellList], cell: u32) -> Result<bool, Memory>
+    requires within { AreWithin parents.now }
+    requires there { cell < length parents.now }
     ensures on { IfOk result
-        (λ lies. (nb : List Cell) → AreParents nb above.now → lies ≡ true → LiesOnCycle nb cell) }
+        (λ lies. (nb : List Cell) → AreParents nb parents.now → lies ≡ true → LiesOnCycle nb cell) }
     ensures off { IfOk result
-        (λ lies. (nb : List Cell) → AreParents nb above.now → lies ≡ false → LiesOnCycle nb cell
+        (λ lies. (nb : List Cell) → AreParents nb parents.now → lies ≡ false → LiesOnCycle nb cell
         → ⊥) }
 {
-    let mut marked = Vec::from_elem(alloc, false, above.len())?;
+    let mut marked = Vec::from_elem(alloc, false, parents.len())?;
     let mut pending = Vec::new(alloc);
     mark(
         marked.as_mut_slice(),
         &mut pending,
-        above[cell as usize].items(),
+        parents[cell as usize].items(),
     )?;
     while let Some(ancestor) = pending.pop() {
         mark(
             marked.as_mut_slice(),
             &mut pending,
-            above[ancestor as usize].items(),
+            parents[ancestor as usize].items(),
         )?;
     }
     Ok(marked[cell as usize])
-}
-
-// The cells that lie on a cycle, in file order. For each cell those above it are looked at once, with their parents.
-pub(crate) fn cyclic_cells(alloc: Global, above: &[CellList]) -> Result<CellList, Memory>
-    requires few { length above.now < 2 ^ 32 }
-    requires within { AreWithin above.now }
-    ensures { IfOk result
-        (λ cells. (nb : List Cell) → AreParents nb above.now → AreCyclic nb cells) }
-{
-    let mut cells = Vec::new(alloc);
-    for cell in 0..above.len() {
-        if lies_on_cycle(alloc, above, cell as u32)? {
-            cells.push(cell as u32)?;
-        }
-    }
-    Ok(CellList::of(cells))
 }

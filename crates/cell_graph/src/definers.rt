@@ -3,8 +3,8 @@ ghost use Rattle.std.specs.Prelude.{◌≡◌, ◌^◌, ◌<◌, ◌++◌, ◌�
 ghost use Rattle.py_tree.specs.Names.{Name};
 ghost use Rattle.py_tree.specs.Trees.{Cell};
 ghost use Rattle.cell_graph.specs.Definers.{list_at, FindsLists};
-ghost use Rattle.cell_graph.specs.Kept.{AreDefs};
-ghost use Rattle.cell_graph.specs.Refused.{IsCauseOf};
+ghost use Rattle.cell_graph.specs.Tables.{AreDefs};
+ghost use Rattle.cell_graph.specs.Causes.{IsCauseOf};
 ghost use Rattle.cell_graph.specs.declared.fault.GraphFault.TheVariants as fault;
 
 use crate::fault::GraphFault;
@@ -16,15 +16,15 @@ use std::alloc::Global;
 pub(crate) type Definers<'a> = IndexMap<&'a str, u32>;
 
 // The table of the names that the cells define, where no name is defined in two of them.
-pub(crate) fn definers<'a>(alloc: Global, defined: &'a [Lines]) -> Result<Definers<'a>, GraphFault>
-    requires { length defined.now < 2 ^ 32 }
-    ensures finds { IfOk result (λ table. FindsLists defined.now (list_at table)) }
+pub(crate) fn definers<'a>(alloc: Global, defs: &'a [Lines]) -> Result<Definers<'a>, GraphFault>
+    requires { length defs.now < 2 ^ 32 }
+    ensures finds { IfOk result (λ table. FindsLists defs.now (list_at table)) }
     ensures refused { IfErr result
-        (λ e. (nb : List Cell) → AreDefs nb defined.now → IsCauseOf e nb) }
+        (λ e. (nb : List Cell) → AreDefs nb defs.now → IsCauseOf e nb) }
 {
     let mut table = IndexMap::new(alloc);
-    for cell in 0..defined.len() {
-        add_definitions(alloc, &mut table, defined[cell].items(), cell as u32)?;
+    for cell in 0..defs.len() {
+        add_definitions(alloc, &mut table, defs[cell].items(), cell as u32)?;
     }
     Ok(table)
 }

@@ -5,8 +5,8 @@ ghost use Rattle.graph_meaning.specs.Reruns.{rerun};
 ghost use Rattle.py_tree.specs.View.{view_cells};
 
 use crate::cell_list::CellList;
+use crate::place_set::{add_places, reader_places};
 use crate::readers::Readers;
-use crate::reruns::{add_places, reading};
 use py_tree::CellCode;
 use py_value::{Lines, Memory};
 use std::alloc::Global;
@@ -17,12 +17,12 @@ use std::marker::Model;
 #[derive(Drop)]
 pub struct Notebook {
     pub(crate) cells: Vec<CellCode>,
-    pub(crate) defined: Vec<Lines>,
-    pub(crate) referenced: Vec<Lines>,
-    pub(crate) created: Vec<Lines>,
-    pub(crate) above: Vec<CellList>,
-    pub(crate) below: Vec<CellList>,
-    pub(crate) ordered: Vec<u32>,
+    pub(crate) defs: Vec<Lines>,
+    pub(crate) refs: Vec<Lines>,
+    pub(crate) elements: Vec<Lines>,
+    pub(crate) parents: Vec<CellList>,
+    pub(crate) children: Vec<CellList>,
+    pub(crate) order: Vec<u32>,
     pub(crate) places: Vec<u32>,
     pub(crate) readers: Readers,
 }
@@ -36,7 +36,7 @@ impl Model for Notebook {
     ghost use Rattle.cell_graph.specs.Counts.{AreTurned};
     ghost use Rattle.cell_graph.specs.Places.{ArePlaced};
     ghost use Rattle.cell_graph.specs.Readers.{HasReaders};
-    ghost use Rattle.cell_graph.specs.Kept.{AreDefs, AreRefs, AreElements, AreParents};
+    ghost use Rattle.cell_graph.specs.Tables.{AreDefs, AreRefs, AreElements, AreParents};
     ghost use Rattle.graph_meaning.specs.Graph as graph;
 
     ghost Value = { List CellCode };
@@ -45,13 +45,13 @@ impl Model for Notebook {
 
     ghost view = { λ nb. nb.cells.items };
 
-    ghost invariant = { λ nb. (length nb.cells.items < 2 ^ 32) × AreDefs (view_cells nb.cells.items) nb.defined.items
-        × AreRefs (view_cells nb.cells.items) nb.referenced.items
-        × AreElements (view_cells nb.cells.items) nb.created.items
-        × AreParents (view_cells nb.cells.items) nb.above.items × (nb.ordered.items ≡ graph.order (view_cells nb.cells.items))
+    ghost invariant = { λ nb. (length nb.cells.items < 2 ^ 32) × AreDefs (view_cells nb.cells.items) nb.defs.items
+        × AreRefs (view_cells nb.cells.items) nb.refs.items
+        × AreElements (view_cells nb.cells.items) nb.elements.items
+        × AreParents (view_cells nb.cells.items) nb.parents.items × (nb.order.items ≡ graph.order (view_cells nb.cells.items))
         × graph.NoneDoubled (view_cells nb.cells.items) × graph.NoneCyclic (view_cells nb.cells.items)
-        × AreTurned nb.above.items nb.below.items × ArePlaced nb.ordered.items nb.places.items nb.below.items
-        × HasReaders nb.referenced.items nb.readers };
+        × AreTurned nb.parents.items nb.children.items × ArePlaced nb.order.items nb.places.items nb.children.items
+        × HasReaders nb.refs.items nb.readers };
 }
 
 impl Notebook {
@@ -69,7 +69,7 @@ impl Notebook {
         requires { cell < length self.now }
         ensures { result.now ≡ graph.defs_of (view_cells self.now) cell }
     {
-        &self.defined[cell as usize]
+        &self.defs[cell as usize]
     }
 
     /// The names that a cell references.
@@ -77,7 +77,7 @@ impl Notebook {
         requires { cell < length self.now }
         ensures { result.now ≡ graph.refs_of (view_cells self.now) cell }
     {
-        &self.referenced[cell as usize]
+        &self.refs[cell as usize]
     }
 
     /// The names of the elements that a cell creates.
@@ -85,7 +85,7 @@ impl Notebook {
         requires { cell < length self.now }
         ensures { result.now ≡ graph.elements_of (view_cells self.now) cell }
     {
-        &self.created[cell as usize]
+        &self.elements[cell as usize]
     }
 
     /// The cells that define a name that the cell references, in file order.
@@ -93,7 +93,7 @@ impl Notebook {
         requires { cell < length self.now }
         ensures { result.now ≡ graph.parents (view_cells self.now) cell }
     {
-        self.above[cell as usize].items()
+        self.parents[cell as usize].items()
     }
 
     /// The order in which the cells run, in which every cell stands: the next cell is always the earliest in the file that isn't
@@ -102,7 +102,7 @@ impl Notebook {
         ensures order { result.now ≡ graph.order (view_cells self.now) }
         ensures every { (c : ℕ) → c < length self.now → IsTrue (graph.is_in c result.now) }
     {
-        self.ordered.as_slice()
+        self.order.as_slice()
     }
 
     /// The cells that run again when these names change, in the order: those that reference one of them, and all behind these. The
@@ -112,12 +112,12 @@ impl Notebook {
         ensures { IfOk result (λ cells. cells ≡ rerun (view_cells self.now) names.now) }
     {
         let places = self.places.as_slice();
-        let mut pending = reading(alloc, &self.readers, places, names.items())?;
+        let mut pending = reader_places(alloc, &self.readers, places, names.items())?;
         let mut listed = Vec::new(alloc);
         while let Some(place) = pending.pop_first() {
-            let cell = self.ordered[place as usize];
+            let cell = self.order[place as usize];
             listed.push(cell)?;
-            add_places(&mut pending, places, self.below[cell as usize].items())?;
+            add_places(&mut pending, places, self.children[cell as usize].items())?;
         }
         Ok(CellList::of(listed))
     }

@@ -2,29 +2,29 @@
 //! again, cells on cycles, and cells that run again.
 #![tactic(auto)]
 
-mod ancestry;
+mod build;
+mod cell_elements;
 mod cell_list;
 mod cell_names;
 mod cell_places;
-mod check;
 mod children;
-mod created;
 mod cycles;
 mod definers;
 mod fault;
-mod free;
+mod free_names;
 mod graph;
 mod name_set;
-mod occurrences;
 mod order;
+mod parent_counts;
+mod parents;
+mod place_set;
 mod readers;
-mod reruns;
-mod waits;
+mod scope;
 
+pub use build::notebook;
+pub use cell_elements::elements;
 pub use cell_list::CellList;
 pub use cell_names::{defs, refs};
-pub use check::notebook;
-pub use created::elements;
 pub use fault::GraphFault;
 pub use graph::Notebook;
 

@@ -1,6 +1,6 @@
 // Sets of names in the order in which they were first seen.
 ghost use Rattle.std.specs.Prelude.{◌≡◌, IfOk};
-ghost use Rattle.cell_graph.specs.Borrowed.{texts};
+ghost use Rattle.cell_graph.specs.Texts.{texts};
 ghost use Rattle.py_tree.specs.Names as names;
 
 use indexmap::IndexSet;

@@ -12,13 +12,13 @@ use std::alloc::Global;
 pub(crate) type Readers = NameMap<CellList>;
 
 // The table of the names that the cells reference.
-pub(crate) fn readers(alloc: Global, referenced: &[Lines]) -> Result<Readers, Memory>
-    requires { length referenced.now < 2 ^ 32 }
-    ensures { IfOk result (λ table. HasReaders referenced.now table) }
+pub(crate) fn readers(alloc: Global, refs: &[Lines]) -> Result<Readers, Memory>
+    requires { length refs.now < 2 ^ 32 }
+    ensures { IfOk result (λ table. HasReaders refs.now table) }
 {
     let mut table = NameMap::new(alloc);
-    for cell in 0..referenced.len() {
-        add_reader(alloc, &mut table, referenced[cell].items(), cell as u32)?;
+    for cell in 0..refs.len() {
+        add_reader(alloc, &mut table, refs[cell].items(), cell as u32)?;
     }
     Ok(table)
 }

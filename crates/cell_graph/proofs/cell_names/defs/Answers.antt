@@ -4,7 +4,7 @@ use Rattle.std.proofs.lemmas.Fn.{filter_same}
 use Rattle.py_tree.specs.Names.{Name, first_seen, is_local}
 use Rattle.py_tree.specs.Scope as scope
 use Rattle.py_tree.specs.View.{view_block, view_cell}
-use Rattle.cell_graph.specs.Borrowed.{texts}
+use Rattle.cell_graph.specs.Texts.{texts}
 use Rattle.cell_graph.proofs.Names.{texts-filter}
 use Rattle.cell_graph.proofs.cell_names.defs.Goals as goal
 

@@ -7,7 +7,7 @@ use Rattle.cell_graph.proofs.cell_places.places_of.Goals as goal
 
 pub loop-place-preserved : goal.loop-place-preserved
 loop-place-preserved c =
-    let ordered : List ℕ = c.args.ordered.now in
+    let ordered : List ℕ = c.args.order.now in
     let table : List ℕ = c.loop-place.places.items in
     let place = c.loop-place.place in
     let inside : get_or ordered place 0 < length ordered = c.requires.within place 0 c.loop-place-test.true in

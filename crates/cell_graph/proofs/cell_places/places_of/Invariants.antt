@@ -4,6 +4,6 @@ use Rattle.cell_graph.proofs.cell_places.places_of.Given as goal
 
 abbrev pub invariant-loop-place : goal.invariant-loop-place
 invariant-loop-place l = record {
-  count : length l.places.items ≡ length l.ordered;
-  each : (q : ℕ) → q < l.place → get_or l.places.items (get_or l.ordered q 0) 0 ≡ q;
+  count : length l.places.items ≡ length l.order;
+  each : (q : ℕ) → q < l.place → get_or l.places.items (get_or l.order q 0) 0 ≡ q;
 }

@@ -9,7 +9,7 @@ use Rattle.cell_graph.proofs.cycles.cyclic_cells.Goals.{then-branch+in_ok-push, 
 
 pub loop-cell-preserved : goal.loop-cell-preserved
 loop-cell-preserved c = λ nb kept.
-    let above : List (List ℕ) = c.args.above.now in
+    let above : List (List ℕ) = c.args.parents.now in
     let n = c.loop-cell.cell in
     let cells : List ℕ = c.loop-cell.cells.items in
     let so_far = c.loop-cell.invariant nb kept in
@@ -27,4 +27,4 @@ loop-cell-preserved c = λ nb kept.
 pub returns : goal.returns
 returns c = λ nb kept.
     subst (AreCyclic nb) (sym c.of.ensures)
-    (all_found nb c.args.above.now c.loop-cell.cell c.loop-cell.cells.items kept c.loop-cell-test.false (c.loop-cell.invariant nb kept))
+    (all_found nb c.args.parents.now c.loop-cell.cell c.loop-cell.cells.items kept c.loop-cell-test.false (c.loop-cell.invariant nb kept))

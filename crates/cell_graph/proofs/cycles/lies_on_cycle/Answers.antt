@@ -13,23 +13,23 @@ is_nil : (xs : List ℕ) → length xs ≡ 0 → xs ≡ []
 is_nil [] h = refl
 is_nil (x ∷ xs) h = absurd (omega arith)
 
-pub bounds-above-ancestor : goal.bounds-above-ancestor
-bounds-above-ancestor c =
-    let s = subst (IsSearched c.args.above.now c.args.cell c.loop-ancestor.marked.items) c.in-Some.ensures.items c.loop-ancestor.invariant in
-    let on = was_marked c.args.above.now c.args.cell c.loop-ancestor.marked.items c.pop.new.self.items c.in-Some.ancestor s in
+pub bounds-parents-ancestor : goal.bounds-parents-ancestor
+bounds-parents-ancestor c =
+    let s = subst (IsSearched c.args.parents.now c.args.cell c.loop-ancestor.marked.items) c.in-Some.ensures.items c.loop-ancestor.invariant in
+    let on = was_marked c.args.parents.now c.args.cell c.loop-ancestor.marked.items c.pop.new.self.items c.in-Some.ancestor s in
     let below = marked_below c.loop-ancestor.marked.items c.in-Some.ancestor on in
     omega (arith, below, c.loop-ancestor.invariant.count)
 
 pub mark-requires-in-Some : goal.mark-requires-in-Some
 mark-requires-in-Some c =
-    let above : List (List ℕ) = c.args.above.now in
+    let above : List (List ℕ) = c.args.parents.now in
     let a = c.in-Some.ancestor in
     let s = subst (IsSearched above c.args.cell c.loop-ancestor.marked.items) c.in-Some.ensures.items c.loop-ancestor.invariant in
     let on = was_marked above c.args.cell c.loop-ancestor.marked.items c.pop.new.self.items a s in
     let below = marked_below c.loop-ancestor.marked.items a on in
     let there : a < length above = omega (arith, below, c.loop-ancestor.invariant.count) in
     let same : c.items-in-Some.result.now ≡ list_in above a =
-    c.items-in-Some.ensures ∙ c.index-above-ancestor.is ∙ get_or_default above a c.index-above-ancestor.result [] there in
+    c.items-in-Some.ensures ∙ c.index-parents-ancestor.is ∙ get_or_default above a c.index-parents-ancestor.result [] there in
     let size : length above ≡ length c.as_mut_slice-in-Some.result.now =
     sym c.loop-ancestor.invariant.count ∙ sym (ap (λ (ms : List Bool). length ms) c.as_mut_slice-in-Some.ensures.value) in
     subst (λ (cs : List ℕ). All (λ d. d < length c.as_mut_slice-in-Some.result.now) cs) (sym same)
@@ -37,7 +37,7 @@ mark-requires-in-Some c =
 
 pub loop-ancestor-preserved : goal.loop-ancestor-preserved
 loop-ancestor-preserved c =
-    let above : List (List ℕ) = c.args.above.now in
+    let above : List (List ℕ) = c.args.parents.now in
     let marked : List Bool = c.loop-ancestor.marked.items in
     let rest : List ℕ = c.pop.new.self.items in
     let a = c.in-Some.ancestor in
@@ -47,7 +47,7 @@ loop-ancestor-preserved c =
     let below = marked_below marked a on in
     let there : a < length above = omega (arith, below, c.loop-ancestor.invariant.count) in
     let cells : c.items-in-Some.result.now ≡ list_in above a =
-    c.items-in-Some.ensures ∙ c.index-above-ancestor.is ∙ get_or_default above a c.index-above-ancestor.result [] there in
+    c.items-in-Some.ensures ∙ c.index-parents-ancestor.is ∙ get_or_default above a c.index-parents-ancestor.result [] there in
     let same : c.as_mut_slice-in-Some.result.now ≡ marked = c.as_mut_slice-in-Some.ensures.value in
     let size : length new ≡ length marked = c.mark-in-Some.auto.marked ∙ ap (λ (ms : List Bool). length ms) same in
     let back : take c.loop-ancestor.marked.len (new ++ drop (length new) marked) ≡ new =
@@ -62,7 +62,7 @@ returns-clause-on c = λ nb kept on.
     let there : c.args.cell < length c.loop-ancestor.marked.items = omega (arith, c.requires.there, c.loop-ancestor.invariant.count) in
     let mark : is_marked c.loop-ancestor.marked.items c.args.cell ≡ c.index.result.now =
     get_or_default c.loop-ancestor.marked.items c.args.cell false c.index.result.now there ∙ sym c.index.ensures in
-    lies nb c.args.above.now kept c.args.cell c.loop-ancestor.marked.items c.loop-ancestor.pending.items c.loop-ancestor.invariant (mark ∙ on)
+    lies nb c.args.parents.now kept c.args.cell c.loop-ancestor.marked.items c.loop-ancestor.pending.items c.loop-ancestor.invariant (mark ∙ on)
 
 pub returns-clause-off : goal.returns-clause-off
 returns-clause-off c = λ nb kept off cycle.
@@ -70,5 +70,5 @@ returns-clause-off c = λ nb kept off cycle.
     let mark : is_marked c.loop-ancestor.marked.items c.args.cell ≡ c.index.result.now =
     get_or_default c.loop-ancestor.marked.items c.args.cell false c.index.result.now there ∙ sym c.index.ensures in
     let none : c.loop-ancestor.pending.items ≡ [] = is_nil c.loop-ancestor.pending.items (omega (arith, c.in_default.ensures.cases.0)) in
-    lies_not nb c.args.above.now kept c.args.cell c.loop-ancestor.marked.items
-    (subst (IsSearched c.args.above.now c.args.cell c.loop-ancestor.marked.items) none c.loop-ancestor.invariant) (mark ∙ off) cycle
+    lies_not nb c.args.parents.now kept c.args.cell c.loop-ancestor.marked.items
+    (subst (IsSearched c.args.parents.now c.args.cell c.loop-ancestor.marked.items) none c.loop-ancestor.invariant) (mark ∙ off) cycle

@@ -5,7 +5,7 @@ use Rattle.cell_graph.proofs.Ancestors.{IsSearched}
 use Rattle.cell_graph.proofs.cycles.lies_on_cycle.Given as goal
 
 abbrev pub invariant-loop-ancestor : goal.invariant-loop-ancestor
-invariant-loop-ancestor l = IsSearched l.above l.cell l.marked.items l.pending.items
+invariant-loop-ancestor l = IsSearched l.parents l.cell l.marked.items l.pending.items
 
 abbrev pub decreases-loop-ancestor : goal.decreases-loop-ancestor
 decreases-loop-ancestor l = count_by not l.marked.items + length l.pending.items

@@ -5,7 +5,7 @@ use Rattle.std.proofs.lemmas.List.{take_more}
 use Rattle.std.proofs.lemmas.Map.Text.{hash_map_updates_str}
 use Rattle.py_tree.specs.Names.{Name}
 use Rattle.cell_graph.specs.Definers.{list_at, FindsLists}
-use Rattle.cell_graph.specs.Refused.{IsCauseOf}
+use Rattle.cell_graph.specs.Causes.{IsCauseOf}
 use Rattle.cell_graph.specs.declared.fault.GraphFault.{GraphFault}
 use Rattle.cell_graph.specs.declared.fault.GraphFault.TheVariants.{Doubly}
 use Rattle.cell_graph.proofs.Cells.{doubled}

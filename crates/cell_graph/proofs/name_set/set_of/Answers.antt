@@ -1,7 +1,7 @@
 -- The next name is in the set, or goes last.
 use Rattle.std.proofs.Common.{◌≡◌, ◌+◌, ◌++◌, ◌∙◌, sym, ap, get_or, drop, [], ◌∷◌, arith, drop-cons, add-one, Bor}
 use Rattle.py_tree.specs.Names.{Name, first_seen_after}
-use Rattle.cell_graph.specs.Borrowed.{texts}
+use Rattle.cell_graph.specs.Texts.{texts}
 use Rattle.cell_graph.proofs.Names.{set_after_insert}
 use Rattle.cell_graph.proofs.name_set.set_of.Goals as goal
 

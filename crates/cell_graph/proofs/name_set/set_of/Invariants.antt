@@ -1,6 +1,6 @@
 -- the set has the names so far, and those that first come later are to follow
 use Rattle.std.proofs.Common.{◌≡◌, ◌++◌, drop}
-use Rattle.cell_graph.specs.Borrowed.{texts}
+use Rattle.cell_graph.specs.Texts.{texts}
 use Rattle.py_tree.specs.Names.{first_seen, first_seen_after}
 use Rattle.cell_graph.proofs.name_set.set_of.Given as goal
 

@@ -9,7 +9,7 @@ use Rattle.std.proofs.lemmas.List.{get_or_default}
 use Rattle.graph_meaning.specs.Graph.{numbers_from, is_in}
 use Rattle.cell_graph.specs.Counts.{list_in, count_of}
 use Rattle.cell_graph.proofs.Numbers.{numbers_alike}
-use Rattle.cell_graph.proofs.Sweeps.{IsSwept, is_free_of, same_sweep, at_first, first, child_held, child_inside, swept_more, place_more, place_none}
+use Rattle.cell_graph.proofs.OrderSteps.{IsSwept, is_free_of, same_sweep, at_first, first, child_held, child_inside, swept_more, place_more, place_none}
 use Rattle.cell_graph.proofs.order.order_of.Goals as goal
 use Rattle.cell_graph.proofs.order.order_of.Goals.{in-Some+in_ok-push+in_ok-release, in_default}
 
@@ -19,53 +19,53 @@ is_nil (x ∷ xs) h = absurd (h (omega arith))
 
 pub loop-init : goal.loop-init
 loop-init c =
-    let waits : List ℕ = c.in_ok-waits.waits.items in
-    let free : c.in_ok-ready.ready.keys ≡ filter (λ d. get_or waits d 0 == 0) (numbers_from 0 waits) =
+    let counts : List ℕ = c.in_ok-counts.counts.items in
+    let free : c.in_ok-ready.ready.keys ≡ filter (λ d. get_or counts d 0 == 0) (numbers_from 0 counts) =
     c.in_ok-ready.ensures ∙ ap (λ (ws : List ℕ). filter (λ d. get_or ws d 0 == 0) (numbers_from 0 ws)) c.as_slice.ensures.value in
     record {
-      swept = subst (λ (ls : List ℕ). IsSwept c.args.above.now ls waits c.in_ok-ready.ready.keys) (sym c.new-listed.ensures.items)
-          (at_first c.args.above.now waits c.in_ok-ready.ready.keys c.in_ok-waits.ensures free);
+      swept = subst (λ (ls : List ℕ). IsSwept c.args.parents.now ls counts c.in_ok-ready.ready.keys) (sym c.new-listed.ensures.items)
+          (at_first c.args.parents.now counts c.in_ok-ready.ready.keys c.in_ok-counts.ensures free);
       placed = λ nb kept. c.new-listed.ensures.items;
     }
 
-pub bounds-below-cell : goal.bounds-below-cell
-bounds-below-cell c =
-    let f = first c.args.above.now c.loop.listed.items c.loop.waits.items c.loop.ready.keys c.loop.invariant.swept c.in-Some.cell
+pub bounds-children-cell : goal.bounds-children-cell
+bounds-children-cell c =
+    let f = first c.args.parents.now c.loop.listed.items c.loop.counts.items c.loop.ready.keys c.loop.invariant.swept c.in-Some.cell
     c.pop_first.new.self.keys c.in-Some.ensures.removal in
     omega (arith, f.high, c.requires.turned.count)
 
 pub release-requires-clause-within : goal.release-requires-clause-within
 release-requires-clause-within c =
-    let below : List (List ℕ) = c.args.below.now in
-    let f = first c.args.above.now c.loop.listed.items c.loop.waits.items c.loop.ready.keys c.loop.invariant.swept c.in-Some.cell
+    let below : List (List ℕ) = c.args.children.now in
+    let f = first c.args.parents.now c.loop.listed.items c.loop.counts.items c.loop.ready.keys c.loop.invariant.swept c.in-Some.cell
     c.pop_first.new.self.keys c.in-Some.ensures.removal in
     let there : c.in-Some.cell < length below = omega (arith, f.high, c.requires.turned.count) in
     let children : c.items.result.now ≡ list_in below c.in-Some.cell =
-    c.items.ensures ∙ c.index-below-cell.is ∙ get_or_default below c.in-Some.cell c.index-below-cell.result [] there in
-    let inside = child_inside c.args.above.now c.loop.listed.items c.loop.waits.items c.loop.ready.keys c.loop.invariant.swept c.in-Some.cell
+    c.items.ensures ∙ c.index-children-cell.is ∙ get_or_default below c.in-Some.cell c.index-children-cell.result [] there in
+    let inside = child_inside c.args.parents.now c.loop.listed.items c.loop.counts.items c.loop.ready.keys c.loop.invariant.swept c.in-Some.cell
     c.pop_first.new.self.keys c.in-Some.ensures.removal below c.requires.turned in
     subst (λ (ws : List ℕ). All (λ d. d < length ws) c.items.result.now) (sym c.as_mut_slice.ensures.value)
-    (subst (All (λ d. d < length c.loop.waits.items)) (sym children) inside)
+    (subst (All (λ d. d < length c.loop.counts.items)) (sym children) inside)
 
-pub release-requires-clause-held : goal.release-requires-clause-held
-release-requires-clause-held c = λ d.
-    let below : List (List ℕ) = c.args.below.now in
-    let f = first c.args.above.now c.loop.listed.items c.loop.waits.items c.loop.ready.keys c.loop.invariant.swept c.in-Some.cell
+pub release-requires-clause-enough : goal.release-requires-clause-enough
+release-requires-clause-enough c = λ d.
+    let below : List (List ℕ) = c.args.children.now in
+    let f = first c.args.parents.now c.loop.listed.items c.loop.counts.items c.loop.ready.keys c.loop.invariant.swept c.in-Some.cell
     c.pop_first.new.self.keys c.in-Some.ensures.removal in
     let there : c.in-Some.cell < length below = omega (arith, f.high, c.requires.turned.count) in
     let children : c.items.result.now ≡ list_in below c.in-Some.cell =
-    c.items.ensures ∙ c.index-below-cell.is ∙ get_or_default below c.in-Some.cell c.index-below-cell.result [] there in
-    let held = child_held c.args.above.now c.loop.listed.items c.loop.waits.items c.loop.ready.keys c.loop.invariant.swept c.in-Some.cell
+    c.items.ensures ∙ c.index-children-cell.is ∙ get_or_default below c.in-Some.cell c.index-children-cell.result [] there in
+    let held = child_held c.args.parents.now c.loop.listed.items c.loop.counts.items c.loop.ready.keys c.loop.invariant.swept c.in-Some.cell
     c.pop_first.new.self.keys c.in-Some.ensures.removal below c.requires.turned d in
     let P : List ℕ → List ℕ → Type 0 = λ cs ws. count_of d cs ≤ get_or ws d 0 in
-    subst (P c.items.result.now) (sym c.as_mut_slice.ensures.value) (subst (λ (cs : List ℕ). P cs c.loop.waits.items) (sym children) held)
+    subst (P c.items.result.now) (sym c.as_mut_slice.ensures.value) (subst (λ (cs : List ℕ). P cs c.loop.counts.items) (sym children) held)
 
 pub loop-preserved : goal.loop-preserved
 loop-preserved c =
-    let above : List (List ℕ) = c.args.above.now in
-    let below : List (List ℕ) = c.args.below.now in
+    let above : List (List ℕ) = c.args.parents.now in
+    let below : List (List ℕ) = c.args.children.now in
     let listed : List ℕ = c.loop.listed.items in
-    let waits : List ℕ = c.loop.waits.items in
+    let counts : List ℕ = c.loop.counts.items in
     let ready : List ℕ = c.loop.ready.keys in
     let rest : List ℕ = c.pop_first.new.self.keys in
     let swept = c.loop.invariant.swept in
@@ -73,32 +73,32 @@ loop-preserved c =
       | in-Some+in_ok-push+in_ok-release w ↦
           let cell = w.in-Some.cell in
           let pop : ready ≡ cell ∷ rest = w.in-Some.ensures.removal in
-          let f = first above listed waits ready swept cell rest pop in
+          let f = first above listed counts ready swept cell rest pop in
           let there : cell < length below = omega (arith, f.high, c.requires.turned.count) in
-          let children : w.items.result.now ≡ list_in below cell = w.items.ensures ∙ w.index-below-cell.is ∙ get_or_default below cell w.index-below-cell.result [] there in
-          let same : w.as_mut_slice.result.now ≡ waits = w.as_mut_slice.ensures.value in
-          let fewer : List ℕ = w.release.new.waits in
-          let less : (d : ℕ) → get_or fewer d 0 + count_of d (list_in below cell) ≡ get_or waits d 0 =
-          λ d. ap (λ cs. get_or fewer d 0 + count_of d cs) (sym children) ∙ w.in_ok-release.ensures.waits d ∙ ap (λ ws. get_or ws d 0) same in
-          let p : ℕ → Bool = λ d. is_free_of listed waits d && not (d == cell) in
+          let children : w.items.result.now ≡ list_in below cell = w.items.ensures ∙ w.index-children-cell.is ∙ get_or_default below cell w.index-children-cell.result [] there in
+          let same : w.as_mut_slice.result.now ≡ counts = w.as_mut_slice.ensures.value in
+          let fewer : List ℕ = w.release.new.counts in
+          let less : (d : ℕ) → get_or fewer d 0 + count_of d (list_in below cell) ≡ get_or counts d 0 =
+          λ d. ap (λ cs. get_or fewer d 0 + count_of d cs) (sym children) ∙ w.in_ok-release.ensures.counts d ∙ ap (λ ws. get_or ws d 0) same in
+          let p : ℕ → Bool = λ d. is_free_of listed counts d && not (d == cell) in
           let others : rest ≡ filter p (numbers_from 0 w.as_mut_slice.result.now) =
           f.others ∙ ap (filter p) (sym (numbers_alike 0 w.as_mut_slice.result.now above (ap (λ (ws : List ℕ). length ws) same ∙ swept.count))) in
-          let freed : w.release.new.ready.keys ≡ filter (λ d. p d || (is_in d (list_in below cell) && (get_or fewer d 0 == 0))) (numbers_from 0 waits) =
+          let freed : w.release.new.ready.keys ≡ filter (λ d. p d || (is_in d (list_in below cell) && (get_or fewer d 0 == 0))) (numbers_from 0 counts) =
           w.in_ok-release.ensures.ready p others
           ∙ (λ i. filter (λ d. p d || (is_in d (children i) && (get_or fewer d 0 == 0))) (numbers_from 0 (same i))) in
-          let size : length fewer ≡ length waits = w.release.auto.waits ∙ ap (λ (ws : List ℕ). length ws) same in
+          let size : length fewer ≡ length counts = w.release.auto.counts ∙ ap (λ (ws : List ℕ). length ws) same in
           let more : c.match-pop_first.listed.items ≡ listed ++ cell ∷ [] = ap (λ (v : Vec ℕ Global). v.items) w.listed-is ∙ w.in_ok-push.ensures.items in
-          let back : take c.loop.waits.len (fewer ++ drop (length fewer) waits) ≡ fewer = grind (arith, common_steps, w.release.auto.waits, w.as_mut_slice.ensures.len) in
+          let back : take c.loop.counts.len (fewer ++ drop (length fewer) counts) ≡ fewer = grind (arith, common_steps, w.release.auto.counts, w.as_mut_slice.ensures.len) in
           record {
-            swept = same_sweep above (listed ++ cell ∷ []) fewer w.release.new.ready.keys _ _ _ more (ap (λ (v : Vec ℕ Global). v.items) w.waits-is ∙ back) (ap (λ (s : BTreeSet ℕ). s.keys) w.ready-is)
-                (swept_more above listed waits ready swept cell rest pop below c.requires.turned fewer less w.release.new.ready.keys size freed);
-            placed = λ nb kept. more ∙ place_more above listed waits ready swept cell rest pop nb c.loop.counter kept (c.loop.invariant.placed nb kept);
+            swept = same_sweep above (listed ++ cell ∷ []) fewer w.release.new.ready.keys _ _ _ more (ap (λ (v : Vec ℕ Global). v.items) w.counts-is ∙ back) (ap (λ (s : BTreeSet ℕ). s.keys) w.ready-is)
+                (swept_more above listed counts ready swept cell rest pop below c.requires.turned fewer less w.release.new.ready.keys size freed);
+            placed = λ nb kept. more ∙ place_more above listed counts ready swept cell rest pop nb c.loop.counter kept (c.loop.invariant.placed nb kept);
           }
       | in_default w ↦
           let none : ready ≡ [] = is_nil ready (λ h. false≢true (w.in_default.ensures.variant.1 h)) in
           let same : c.match-pop_first.listed.items ≡ listed = ap (λ (v : Vec ℕ Global). v.items) w.listed-is in
           record {
-            swept = same_sweep above listed waits ready _ _ _ same (ap (λ (v : Vec ℕ Global). v.items) w.waits-is) (ap (λ (s : BTreeSet ℕ). s.keys) w.ready-is ∙ w.in_default.ensures.unchanged) swept;
-            placed = λ nb kept. same ∙ place_none above listed waits ready swept none nb c.loop.counter kept (c.loop.invariant.placed nb kept);
+            swept = same_sweep above listed counts ready _ _ _ same (ap (λ (v : Vec ℕ Global). v.items) w.counts-is) (ap (λ (s : BTreeSet ℕ). s.keys) w.ready-is ∙ w.in_default.ensures.unchanged) swept;
+            placed = λ nb kept. same ∙ place_none above listed counts ready swept none nb c.loop.counter kept (c.loop.invariant.placed nb kept);
           }
     ]

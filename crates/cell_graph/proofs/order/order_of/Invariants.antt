@@ -2,12 +2,12 @@
 use Rattle.std.proofs.Common.{◌≡◌, List}
 use Rattle.py_tree.specs.Trees.{Cell}
 use Rattle.graph_meaning.specs.Graph.{places}
-use Rattle.cell_graph.specs.Kept.{AreParents}
-use Rattle.cell_graph.proofs.Sweeps.{IsSwept}
+use Rattle.cell_graph.specs.Tables.{AreParents}
+use Rattle.cell_graph.proofs.OrderSteps.{IsSwept}
 use Rattle.cell_graph.proofs.order.order_of.Given as goal
 
 abbrev pub invariant-loop : goal.invariant-loop
 invariant-loop l = record {
-  swept : IsSwept l.above l.listed.items l.waits.items l.ready.keys;
-  placed : (nb : List Cell) → AreParents nb l.above → l.listed.items ≡ places nb l.counter;
+  swept : IsSwept l.parents l.listed.items l.counts.items l.ready.keys;
+  placed : (nb : List Cell) → AreParents nb l.parents → l.listed.items ≡ places nb l.counter;
 }

@@ -6,7 +6,7 @@ use Rattle.py_tree.specs.Names.{Name}
 use Rattle.py_value.specs.Maps.{Map, put, where_name}
 use Rattle.graph_meaning.specs.Graph.{is_in}
 use Rattle.cell_graph.specs.Readers.{cells_at}
-use Rattle.cell_graph.proofs.Readings.{one_more, name_more}
+use Rattle.cell_graph.proofs.ReaderTable.{one_more, name_more}
 use Rattle.cell_graph.proofs.readers.add_reader.Goals as goal
 use Rattle.cell_graph.proofs.readers.add_reader.Goals.{in-Some, in-None}
 

@@ -9,4 +9,4 @@ use Rattle.cell_graph.proofs.readers.readers.Given as goal
 
 abbrev pub invariant-loop-cell : goal.invariant-loop-cell
 invariant-loop-cell l =
-    (x : Name) (c : ℕ) → is_in c (cells_at l.table x) ≡ (nat_lt c l.cell && is_among x (names_in l.referenced c))
+    (x : Name) (c : ℕ) → is_in c (cells_at l.table x) ≡ (nat_lt c l.cell && is_among x (names_in l.refs c))

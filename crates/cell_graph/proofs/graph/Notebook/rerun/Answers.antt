@@ -12,26 +12,27 @@ use Rattle.graph_meaning.specs.Reruns.{reads_one, is_within, rerun}
 use Rattle.cell_graph.specs.Counts.{list_in}
 use Rattle.cell_graph.specs.Places.{is_placed}
 use Rattle.cell_graph.specs.Readers.{cells_at}
-use Rattle.cell_graph.proofs.Spreads.{is_waiting, at_first, same_spread, all_listed, high, few, left_of, spread_more, child_inside}
-use Rattle.cell_graph.proofs.Readings.{all_from_in, reader_inside}
-use Rattle.cell_graph.proofs.Standings.{spreads, first_waiting}
+use Rattle.cell_graph.proofs.Reruns.{is_waiting, at_first, same_spread, all_listed, high, few, left_of, spread_more, child_inside}
+use Rattle.cell_graph.proofs.ReaderTable.{reader_inside}
+use Rattle.cell_graph.proofs.OrderPlaces.{spreads, first_waiting}
+use Rattle.cell_graph.proofs.Counts.{all_from_in}
 use Rattle.cell_graph.proofs.graph.Notebook.rerun.Goals as goal
 
 is_nil : (xs : List ℕ) → (0 < length xs → ⊥) → xs ≡ []
 is_nil [] h = refl
 is_nil (x ∷ xs) h = absurd (h (omega arith))
 
-pub reading-requires-clause-cells : goal.reading-requires-clause-cells
-reading-requires-clause-cells c = λ x.
+pub reader_places-requires-clause-cells : goal.reader_places-requires-clause-cells
+reader_places-requires-clause-cells c = λ x.
     let nb : List Cell = view_cells c.self.inside.cells.items in
     let place = c.self.invariant.9 in
     let size = ap (λ (ps : List ℕ). length ps) c.as_slice-places.ensures.value in
     all_from_in (λ d. d < length c.as_slice-places.result.now) (cells_at c.self.inside.readers x) (λ d h.
-    let low = reader_inside nb c.self.inside.referenced.items c.self.invariant.2 c.self.inside.readers c.self.invariant.10 x d h in
+    let low = reader_inside nb c.self.inside.refs.items c.self.invariant.2 c.self.inside.readers c.self.invariant.10 x d h in
     omega (arith, place.count, place.lists, c.self.invariant.8.count, c.self.invariant.4.count))
 
-pub reading-requires-clause-there : goal.reading-requires-clause-there
-reading-requires-clause-there c = λ k d low.
+pub reader_places-requires-clause-there : goal.reader_places-requires-clause-there
+reader_places-requires-clause-there c = λ k d low.
     let place = c.self.invariant.9 in
     let size = ap (λ (ps : List ℕ). length ps) c.as_slice-places.ensures.value in
     let there = place.there k (omega (arith, place.count)) in
@@ -43,24 +44,24 @@ pub loop-place-init : goal.loop-place-init
 loop-place-init c =
     let nb : List Cell = view_cells c.self.inside.cells.items in
     let names : List Name = c.args.names.now in
-    let ordered : List ℕ = c.self.inside.ordered.items in
+    let ordered : List ℕ = c.self.inside.order.items in
     let place = c.self.invariant.9 in
     let full : length ordered ≡ length nb = omega (arith, place.lists, c.self.invariant.8.count, c.self.invariant.4.count) in
     let waits : c.in_ok-pending.pending.keys ≡ filter (λ q. reads_one nb names (get_or ordered q 0)) (numbers_from 0 ordered) =
     c.in_ok-pending.ensures
     ∙ (λ i. filter (λ q. list_any (λ x. is_placed (c.as_slice-places.ensures.value i) (cells_at c.self.inside.readers x) q) (c.items.ensures i)) (numbers_from 0 (c.as_slice-places.ensures.value i)))
-    ∙ first_waiting nb c.self.inside.referenced.items c.self.invariant.2 c.self.inside.readers c.self.invariant.10 ordered c.self.inside.places.items
-    c.self.inside.below.items place full names in
-    same_spread ordered c.self.inside.below.items (reads_one nb names) (is_within nb names (length nb)) [] c.in_ok-pending.pending.keys _ _ c.new-listed.ensures.items refl
-    (at_first ordered c.self.inside.below.items (reads_one nb names) (is_within nb names (length nb)) c.in_ok-pending.pending.keys waits)
+    ∙ first_waiting nb c.self.inside.refs.items c.self.invariant.2 c.self.inside.readers c.self.invariant.10 ordered c.self.inside.places.items
+    c.self.inside.children.items place full names in
+    same_spread ordered c.self.inside.children.items (reads_one nb names) (is_within nb names (length nb)) [] c.in_ok-pending.pending.keys _ _ c.new-listed.ensures.items refl
+    (at_first ordered c.self.inside.children.items (reads_one nb names) (is_within nb names (length nb)) c.in_ok-pending.pending.keys waits)
 
 pub index-cell-requires : goal.index-cell-requires
 index-cell-requires c =
     let nb : List Cell = view_cells c.self.inside.cells.items in
     let names : List Name = c.args.names.now in
     let inside = c.self.inside in
-    let spread = spreads inside.above.items inside.below.items c.self.invariant.8 nb c.self.invariant.4 names in
-    let low = high inside.ordered.items inside.places.items inside.below.items c.self.invariant.9 (reads_one nb names) (is_within nb names (length nb)) spread
+    let spread = spreads inside.parents.items inside.children.items c.self.invariant.8 nb c.self.invariant.4 names in
+    let low = high inside.order.items inside.places.items inside.children.items c.self.invariant.9 (reads_one nb names) (is_within nb names (length nb)) spread
     c.loop-place.listed.items c.loop-place.pending.keys c.loop-place.invariant c.in-Some.place c.pop_first.new.self.keys c.in-Some.ensures.removal in
     search (arith, low)
 
@@ -69,13 +70,13 @@ index-requires c =
     let nb : List Cell = view_cells c.self.inside.cells.items in
     let names : List Name = c.args.names.now in
     let inside = c.self.inside in
-    let spread = spreads inside.above.items inside.below.items c.self.invariant.8 nb c.self.invariant.4 names in
+    let spread = spreads inside.parents.items inside.children.items c.self.invariant.8 nb c.self.invariant.4 names in
     let place = c.in-Some.place in
-    let low = high inside.ordered.items inside.places.items inside.below.items c.self.invariant.9 (reads_one nb names) (is_within nb names (length nb)) spread
+    let low = high inside.order.items inside.places.items inside.children.items c.self.invariant.9 (reads_one nb names) (is_within nb names (length nb)) spread
     c.loop-place.listed.items c.loop-place.pending.keys c.loop-place.invariant place c.pop_first.new.self.keys c.in-Some.ensures.removal in
     let there = c.self.invariant.9.inside place low in
-    let cell : c.index-cell.result.now ≡ get_or inside.ordered.items place 0 =
-    c.index-cell.ensures ∙ get_or_default inside.ordered.items place c.index-cell.result.now 0 low in
+    let cell : c.index-cell.result.now ≡ get_or inside.order.items place 0 =
+    c.index-cell.ensures ∙ get_or_default inside.order.items place c.index-cell.result.now 0 low in
     omega (arith, c.self.invariant.9.lists)
 
 pub add_places-requires-clause-cells : goal.add_places-requires-clause-cells
@@ -84,18 +85,18 @@ add_places-requires-clause-cells c =
     let names : List Name = c.args.names.now in
     let inside = c.self.inside in
     let placed = c.self.invariant.9 in
-    let spread = spreads inside.above.items inside.below.items c.self.invariant.8 nb c.self.invariant.4 names in
+    let spread = spreads inside.parents.items inside.children.items c.self.invariant.8 nb c.self.invariant.4 names in
     let place = c.in-Some.place in
-    let low = high inside.ordered.items inside.places.items inside.below.items placed (reads_one nb names) (is_within nb names (length nb)) spread
+    let low = high inside.order.items inside.places.items inside.children.items placed (reads_one nb names) (is_within nb names (length nb)) spread
     c.loop-place.listed.items c.loop-place.pending.keys c.loop-place.invariant place c.pop_first.new.self.keys c.in-Some.ensures.removal in
     let there = placed.inside place low in
-    let cell : c.index-cell.result.now ≡ get_or inside.ordered.items place 0 =
-    c.index-cell.ensures ∙ get_or_default inside.ordered.items place c.index-cell.result.now 0 low in
+    let cell : c.index-cell.result.now ≡ get_or inside.order.items place 0 =
+    c.index-cell.ensures ∙ get_or_default inside.order.items place c.index-cell.result.now 0 low in
     let size = ap (λ (ps : List ℕ). length ps) c.as_slice-places.ensures.value in
-    let children : c.items-in-Some.result.now ≡ list_in inside.below.items c.index-cell.result.now =
-    c.items-in-Some.ensures ∙ c.index.ensures ∙ get_or_default inside.below.items c.index-cell.result.now c.index.result.now [] (omega (arith, placed.lists)) in
+    let children : c.items-in-Some.result.now ≡ list_in inside.children.items c.index-cell.result.now =
+    c.items-in-Some.ensures ∙ c.index.ensures ∙ get_or_default inside.children.items c.index-cell.result.now c.index.result.now [] (omega (arith, placed.lists)) in
     all_from_in (λ d. d < length c.as_slice-places.result.now) c.items-in-Some.result.now (λ d h.
-    let low = child_inside inside.ordered.items inside.places.items inside.below.items placed c.index-cell.result.now d (sym (ap (is_in d) children) ∙ h) in
+    let low = child_inside inside.order.items inside.places.items inside.children.items placed c.index-cell.result.now d (sym (ap (is_in d) children) ∙ h) in
     omega (arith, placed.count))
 
 pub loop-place-smaller : goal.loop-place-smaller
@@ -103,8 +104,8 @@ loop-place-smaller c =
     let nb : List Cell = view_cells c.self.inside.cells.items in
     let names : List Name = c.args.names.now in
     let inside = c.self.inside in
-    let spread = spreads inside.above.items inside.below.items c.self.invariant.8 nb c.self.invariant.4 names in
-    let low = few inside.ordered.items inside.places.items inside.below.items c.self.invariant.9 (reads_one nb names) (is_within nb names (length nb)) spread
+    let spread = spreads inside.parents.items inside.children.items c.self.invariant.8 nb c.self.invariant.4 names in
+    let low = few inside.order.items inside.places.items inside.children.items c.self.invariant.9 (reads_one nb names) (is_within nb names (length nb)) spread
     c.loop-place.listed.items c.loop-place.pending.keys c.loop-place.invariant c.in-Some.place c.pop_first.new.self.keys c.in-Some.ensures.removal in
     let size = ap (λ (ps : List ℕ). length ps) c.in_ok-push.ensures.items in
     let more = length_push c.loop-place.listed.items c.index-cell.result.now in
@@ -115,8 +116,8 @@ loop-place-preserved c =
     let nb : List Cell = view_cells c.self.inside.cells.items in
     let names : List Name = c.args.names.now in
     let inside = c.self.inside in
-    let ordered : List ℕ = inside.ordered.items in
-    let below : List (List ℕ) = inside.below.items in
+    let ordered : List ℕ = inside.order.items in
+    let below : List (List ℕ) = inside.children.items in
     let placed = c.self.invariant.9 in
     let p = reads_one nb names in
     let w = is_within nb names (length nb) in
@@ -124,7 +125,7 @@ loop-place-preserved c =
     let pending : List ℕ = c.loop-place.pending.keys in
     let rest : List ℕ = c.pop_first.new.self.keys in
     let place = c.in-Some.place in
-    let spread = spreads inside.above.items below c.self.invariant.8 nb c.self.invariant.4 names in
+    let spread = spreads inside.parents.items below c.self.invariant.8 nb c.self.invariant.4 names in
     let s = c.loop-place.invariant in
     let low = high ordered inside.places.items below placed p w spread listed pending s place rest c.in-Some.ensures.removal in
     let there = placed.inside place low in
@@ -146,9 +147,9 @@ returns c =
     let nb : List Cell = view_cells c.self.inside.cells.items in
     let names : List Name = c.args.names.now in
     let inside = c.self.inside in
-    let spread = spreads inside.above.items inside.below.items c.self.invariant.8 nb c.self.invariant.4 names in
+    let spread = spreads inside.parents.items inside.children.items c.self.invariant.8 nb c.self.invariant.4 names in
     let none : c.loop-place.pending.keys ≡ [] = is_nil c.loop-place.pending.keys (λ h. false≢true (c.in_default.ensures.variant.1 h)) in
-    let all = all_listed inside.ordered.items inside.places.items inside.below.items c.self.invariant.9 (reads_one nb names) (is_within nb names (length nb)) spread
+    let all = all_listed inside.order.items inside.places.items inside.children.items c.self.invariant.9 (reads_one nb names) (is_within nb names (length nb)) spread
     c.loop-place.listed.items c.loop-place.pending.keys c.loop-place.invariant none in
     c.of.ensures ∙ all ∙ ap (filter (is_within nb names (length nb))) c.self.invariant.5
     ∙ ap (λ (cells : List CellCode). rerun (view_cells cells) names) c.self.view_is

@@ -1,8 +1,0 @@
--- the references of the cells so far
-use Rattle.std.proofs.Common.{◌≡◌, map, take}
-use Rattle.py_tree.specs.Scope as scope
-use Rattle.py_tree.specs.View.{view_cells}
-use Rattle.cell_graph.proofs.check.all_refs.Given as goal
-
-abbrev pub invariant-loop-cell : goal.invariant-loop-cell
-invariant-loop-cell l = l.referenced.items ≡ map scope.refs (view_cells (take l.cell-index l.cells))

@@ -1,7 +1,0 @@
--- the targets so far are added
-use Rattle.std.proofs.Common.{◌≡◌, ◌++◌, take}
-use Rattle.cell_graph.specs.Borrowed.{texts}
-use Rattle.cell_graph.proofs.occurrences.add_line_binds.Given as goal
-
-abbrev pub invariant-loop-target : goal.invariant-loop-target
-invariant-loop-target l = texts l.names.items ≡ texts l.fn.names.items ++ take l.target-index l.target-items
