@@ -27,12 +27,12 @@ escaped_byte b =
     (cond (nat_lt b 32) (codes "\\u00" ++ digit_glyph false (b / 16) ∷ digit_glyph false (b % 16) ∷ []) (b ∷ [])))))))
 
 -- a text as a JSON string
-abbrev pub quoted : List ℕ → List ℕ
-quoted text = 34 ∷ flat_map escaped_byte text ++ 34 ∷ []
+abbrev pub json_string : List ℕ → List ℕ
+json_string text = 34 ∷ flat_map escaped_byte text ++ 34 ∷ []
 
 -- `"NAME":VALUE`
 abbrev pub member : List ℕ → List ℕ → List ℕ
-member name value = quoted name ++ 58 ∷ value
+member name value = json_string name ++ 58 ∷ value
 
 -- members in braces, items in brackets, with commas between them
 abbrev pub object : List (List ℕ) → List ℕ
@@ -71,28 +71,28 @@ output_name output.Element = codes "element"
 
 abbrev pub error_text : Option CellError → List ℕ
 error_text None = null
-error_text (Some e) = object (member (codes "kind") (quoted (kind_name e.kind)) ∷ member (codes "line") (decimal e.line) ∷ [])
+error_text (Some e) = object (member (codes "kind") (json_string (kind_name e.kind)) ∷ member (codes "line") (decimal e.line) ∷ [])
 
 abbrev pub output_text : Option Output → List ℕ
 output_text None = null
-output_text (Some o) = object (member (codes "text") (quoted o.text) ∷ member (codes "type") (quoted (output_name o.kind)) ∷ [])
+output_text (Some o) = object (member (codes "text") (json_string o.text) ∷ member (codes "type") (json_string (output_name o.kind)) ∷ [])
 
 abbrev pub cell_text : CellFrame → List ℕ
 cell_text f =
     object (
     member (codes "cell") (decimal f.cell) ∷
-    member (codes "console") (array (map quoted f.console)) ∷
+    member (codes "console") (array (map json_string f.console)) ∷
     member (codes "error") (error_text f.error) ∷
     member (codes "output") (output_text f.output) ∷
-    member (codes "status") (quoted (status_name f.status)) ∷ []
+    member (codes "status") (json_string (status_name f.status)) ∷ []
     )
 
 -- a refusal says what was refused, and for an element its name
 abbrev pub refused_text : List ℕ → List ℕ
-refused_text what = object (member (codes "refused") (quoted what) ∷ [])
+refused_text what = object (member (codes "refused") (json_string what) ∷ [])
 
 abbrev pub named_refused_text : List ℕ → List ℕ → List ℕ
-named_refused_text name what = object (member (codes "name") (quoted name) ∷ member (codes "refused") (quoted what) ∷ [])
+named_refused_text name what = object (member (codes "name") (json_string name) ∷ member (codes "refused") (json_string what) ∷ [])
 
 abbrev pub frame_text : Frame → List ℕ
 frame_text (frame.Cell f) = cell_text f

@@ -16,17 +16,17 @@ abbrev pub is_escaped : ℕ → ℕ → Bool
 is_escaped quote b = ((b == quote) || (b == 92)) || (nat_lt b 32 || (b == 127))
 
 -- a byte by its number: `\x` and two digits
-abbrev pub numbered : ℕ → List ℕ
-numbered b = codes "\\x" ++ digit_glyph false (b / 16) ∷ digit_glyph false (b % 16) ∷ []
+abbrev pub hex_escape : ℕ → List ℕ
+hex_escape b = codes "\\x" ++ digit_glyph false (b / 16) ∷ digit_glyph false (b % 16) ∷ []
 
 -- what stands for a byte that doesn't stand for itself
 abbrev pub escape_of : ℕ → List ℕ
-escape_of b = cond (b == 9) (codes "\\t") (cond (b == 10) (codes "\\n") (cond (b == 13) (codes "\\r") (cond (nat_lt b 32 || (b == 127)) (numbered b) (92 ∷ b ∷ []))))
+escape_of b = cond (b == 9) (codes "\\t") (cond (b == 10) (codes "\\n") (cond (b == 13) (codes "\\r") (cond (nat_lt b 32 || (b == 127)) (hex_escape b) (92 ∷ b ∷ []))))
 
 -- what stands between quotes for a byte. Texts are UTF-8, and all bytes of a character past ASCII are above 127
-abbrev pub escaped : ℕ → ℕ → List ℕ
-escaped quote b = cond (is_escaped quote b) (escape_of b) (b ∷ [])
+abbrev pub escaped_byte : ℕ → ℕ → List ℕ
+escaped_byte quote b = cond (is_escaped quote b) (escape_of b) (b ∷ [])
 
 -- the text as a literal
-abbrev pub quoted : List ℕ → List ℕ
-quoted text = quote_of text ∷ flat_map (escaped (quote_of text)) text ++ quote_of text ∷ []
+abbrev pub text_literal : List ℕ → List ℕ
+text_literal text = quote_of text ∷ flat_map (escaped_byte (quote_of text)) text ++ quote_of text ∷ []

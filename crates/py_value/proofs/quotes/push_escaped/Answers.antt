@@ -2,10 +2,11 @@
 use Rattle.std.proofs.Common.{◌≡◌, ◌∙◌, ap, sym, subst, ◌++◌, ◌-◌, ◌<◌, true, take, drop, get_or, length, refl, arith}
 use Rattle.std.proofs.lemmas.Str.{IsCharBoundary-start, IsCharBoundary-after_ascii}
 use Rattle.std.specs.Str.{IsCharBoundary}
-use Rattle.py_value.specs.Quoted.{is_escaped}
-use Rattle.py_value.proofs.EscapeRuns.{escaped_ascii, run_begins, run_longer, run_written}
-use Rattle.py_value.proofs.quoting.push_escaped.Goals as goal
-use Rattle.py_value.proofs.quoting.push_escaped.Goals.{then-needs_escape+in_ok-push_str+in_ok-push_escape, else-needs_escape}
+use Rattle.py_value.specs.Quoted.{escaped_byte, is_escaped}
+use Rattle.py_value.proofs.EscapeRuns.{run_begins, run_longer}
+use Rattle.py_value.proofs.LiteralBytes.{escape_written, escaped_ascii, plain}
+use Rattle.py_value.proofs.quotes.push_escaped.Goals as goal
+use Rattle.py_value.proofs.quotes.push_escaped.Goals.{then-needs_escape+in_ok-push_str+in_ok-push_escape, else-needs_escape}
 
 pub loop-i-init : goal.loop-i-init
 loop-i-init c = record {
@@ -34,10 +35,10 @@ loop-i-preserved c =
             boundary = subst (IsCharBoundary text) (sym w.start-is) (IsCharBoundary-after_ascii text i c.utf8.text within ascii);
             written =
                 run_begins c.if-needs_escape.out _ text c.if-needs_escape.start i w.start-is
-                (w.out-is ∙ run_written q x c.loop-i.out w.push_str.new.self w.push_escape.new.out old text start i within is test run w.in_ok-push_escape.ensures c.loop-i.invariant.written);
+                (w.out-is ∙ escape_written q x c.loop-i.out w.push_str.new.self w.push_escape.new.out old text start i within is test run w.in_ok-push_escape.ensures c.loop-i.invariant.written);
           }
       | else-needs_escape w ↦
-          let e = run_longer q c.loop-i.out old text start i c.loop-i.invariant.order within (ap (is_escaped q) (sym is) ∙ sym c.needs_escape.ensures ∙ w.if-needs_escape.false) c.loop-i.invariant.written in
+          let e = run_longer (escaped_byte q) c.loop-i.out old text start i c.loop-i.invariant.order within (plain q (get_or text i 0) (ap (is_escaped q) (sym is) ∙ sym c.needs_escape.ensures ∙ w.if-needs_escape.false)) c.loop-i.invariant.written in
           record {
             order = omega arith;
             boundary = subst (IsCharBoundary text) (sym w.start-is) c.loop-i.invariant.boundary;

@@ -3,7 +3,7 @@ use Rattle.std.proofs.Common.{◌≡◌, ◌+◌, ◌*◌, ◌++◌, map, take}
 use Rattle.py_value.specs.View.{data_of, all_of, pairs_of}
 use Rattle.py_value.specs.Depth.{depth_of, depth_of_all, depth_of_pairs, depth_of_element}
 use Rattle.py_value.specs.Texts.{items_text, pairs_text, params_text, spelling_of, spelling_of_pair}
-use Rattle.py_value.proofs.writing.+text.Given as goal
+use Rattle.py_value.proofs.repr.+text.Given as goal
 
 abbrev pub invariant-push_items-loop-i : goal.invariant-push_items-loop-i
 invariant-push_items-loop-i l = l.out ≡ l.fn.out ++ items_text (map spelling_of (all_of (take l.i l.items)))

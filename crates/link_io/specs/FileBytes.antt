@@ -4,6 +4,6 @@ use Rattle.std.specs.Str.{bytes_eq}
 use Rattle.link_io.specs.declared.mem_files.MemFile.{MemFile}
 
 -- the bytes of the first file of the name
-abbrev pub held : List MemFile → List ℕ → Option (List ℕ)
-held [] name = None
-held (f ∷ fs) name = cond (bytes_eq (string_bytes f.name) name) (Some f.bytes.items) (held fs name)
+abbrev pub file_bytes : List MemFile → List ℕ → Option (List ℕ)
+file_bytes [] name = None
+file_bytes (f ∷ fs) name = cond (bytes_eq (string_bytes f.name) name) (Some f.bytes.items) (file_bytes fs name)

@@ -3,7 +3,7 @@ use Rattle.std.proofs.Common.{◌∙◌, ap, ◌++◌, length}
 use Rattle.std.specs.Prelude.{codes}
 use Rattle.py_value.specs.Texts.{tuple_end}
 use Rattle.py_value.proofs.TextLevels.{repr-None, repr-Bool, repr-Int, repr-Text, repr-List, repr-Tuple, repr-Dict, repr-Element, repr-Html, items_are, pairs_are, str-Text, str_of_others}
-use Rattle.py_value.proofs.text_laws.texts_by_type.Goals as goal
+use Rattle.py_value.proofs.laws.texts_by_type.Goals as goal
 
 pub returns-clause-none : goal.returns-clause-none
 returns-clause-none c = repr-None

@@ -4,7 +4,7 @@ use Rattle.std.specs.Prelude.{codes, OnOk}
 use Rattle.py_value.specs.View.{data_of, all_of, pairs_of}
 use Rattle.py_value.specs.Texts.{separator, tuple_end, items_text, pairs_text, spelling_of, spelling_of_pair, repr_of}
 use Rattle.py_value.proofs.TextLevels.{items_more, pairs_more, two_parts, in_brackets, repr-List, repr-Tuple, repr-Dict, length-all}
-use Rattle.py_value.proofs.writing.+text.Goals as goal
+use Rattle.py_value.proofs.repr.+text.Goals as goal
 
 pub push_items-loop-i-preserved : goal.push_items-loop-i-preserved
 push_items-loop-i-preserved t c =

@@ -1,10 +1,10 @@
 // What calls of elements make.
 ghost use Rattle.std.specs.Prelude.{◌≡◌, ◌⊎◌, Some, Ok, Err, IfErr, IfOk};
-ghost use Rattle.py_value.specs.Elements.{made, slider_of, given};
+ghost use Rattle.py_value.specs.Elements.{made, slider_of, params_of_call};
 ghost use Rattle.ui_elements.specs.Calls.{arguments_of};
 
 use crate::args::Args;
-use crate::filling::given;
+use crate::call_params::params_of_call;
 use crate::parameters::SLIDER;
 use crate::params::{has_text, number_at};
 use crate::ranges::{is_in_range, range_at};
@@ -19,7 +19,7 @@ pub fn make(alloc: Global, kind: Kind, name: &Text, args: &Args) -> Result<Eleme
         (λ f. (f ≡ OpFault.Memory) ⊎ (made kind name.now (arguments_of args.now) ≡ Err f)) }
 {
     match kind {
-        Kind::Slider => slider(alloc, name, given(alloc, &SLIDER, args)?),
+        Kind::Slider => slider(alloc, name, params_of_call(alloc, &SLIDER, args)?),
         _ => Err(OpFault::Subset),
     }
 }

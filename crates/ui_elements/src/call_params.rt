@@ -3,7 +3,7 @@ ghost use Rattle.std.specs.Prelude.{◌≡◌, ◌≤◌, [], Some, IfErr, IfOk,
 ghost use Rattle.std.specs.Option.{option_map};
 ghost use Rattle.py_value.specs.Maps.{look_up};
 ghost use Rattle.py_value.specs.View.{data_of, all_of};
-ghost use Rattle.py_value.specs.Elements.{argument, default_of, filled, given};
+ghost use Rattle.py_value.specs.Elements.{argument, default_of, params_after, params_of_call};
 ghost use Rattle.ui_elements.specs.Calls.{arguments_of, parameter_of, parameters_of, preset_of, words_of};
 ghost use Rattle.ui_elements.specs.Wanting.{IsMemoryOrNone};
 
@@ -16,11 +16,11 @@ use std::alloc::Global;
 
 /// The parameters of a call. `WrongType` where its arguments don't fit them.
 #[tactic(auto, using(crate::proofs::Fills::givens))]
-pub fn given(alloc: Global, parameters: &[Parameter], args: &Args) -> Result<Pairs, OpFault>
+pub fn params_of_call(alloc: Global, parameters: &[Parameter], args: &Args) -> Result<Pairs, OpFault>
     ensures ok { IfOk result
-        (λ params. given (parameters_of parameters.now) (arguments_of args.now) ≡ Some params) }
+        (λ params. params_of_call (parameters_of parameters.now) (arguments_of args.now) ≡ Some params) }
     ensures fault { IfErr result
-        (λ f. IsMemoryOrNone f (given (parameters_of parameters.now) (arguments_of args.now))) }
+        (λ f. IsMemoryOrNone f (params_of_call (parameters_of parameters.now) (arguments_of args.now))) }
 {
     let places = args.places.items();
     let words = args.words.items();
@@ -30,12 +30,12 @@ pub fn given(alloc: Global, parameters: &[Parameter], args: &Args) -> Result<Pai
     if !are_words_of(words, &parameters[places.len()..]) {
         return Err(OpFault::WrongType);
     }
-    filled(alloc, parameters, places, words)
+    params_after(alloc, parameters, places, words)
 }
 
 // What each parameter is, behind those before it.
 #[tactic(auto, using(crate::proofs::Fills::fills))]
-fn filled(
+fn params_after(
     alloc: Global,
     parameters: &[Parameter],
     places: &[Value],
@@ -43,11 +43,11 @@ fn filled(
 ) -> Result<Pairs, OpFault>
     requires { length places.now ≤ length parameters.now }
     ensures ok { IfOk result
-        (λ params. filled (parameters_of parameters.now) (all_of places.now) (words_of words.now) []
+        (λ params. params_after (parameters_of parameters.now) (all_of places.now) (words_of words.now) []
         ≡ Some params) }
     ensures fault { IfErr result
         (λ f. IsMemoryOrNone f
-        (filled (parameters_of parameters.now) (all_of places.now) (words_of words.now) [])) }
+        (params_after (parameters_of parameters.now) (all_of places.now) (words_of words.now) [])) }
 {
     let mut params = Pairs::new(alloc);
     for (at, parameter) in parameters.iter().enumerate() {

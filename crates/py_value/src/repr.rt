@@ -5,7 +5,7 @@ ghost use Rattle.py_value.specs.View.{data_of, all_of, pairs_of};
 ghost use Rattle.py_value.specs.Texts.{truth_text, separator, tuple_end, items_text, pairs_text, params_text, spelling_of, spelling_of_pair, str_of, repr_of, element_text};
 
 use crate::memory::Memory;
-use crate::quoting::push_quoted;
+use crate::quotes::push_quoted;
 use crate::texts::Text;
 use crate::types::{Element, Value};
 use std::alloc::Global;
@@ -171,6 +171,3 @@ fn push_element(alloc: Global, e: &Element, out: &mut Text) -> Result<(), Memory
     push_params(alloc, e.params().items(), out)?;
     out.push_str(">")
 }
-
-#[cfg(test)]
-mod tests;

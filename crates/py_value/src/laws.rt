@@ -4,8 +4,8 @@ ghost use Rattle.std.specs.Fmt.{signed_decimal};
 ghost use Rattle.py_value.specs.declared.types.Data.{Data};
 ghost use Rattle.py_value.specs.declared.types.Data.TheVariants as D;
 ghost use Rattle.py_value.specs.ElementData.{ElementData};
-ghost use Rattle.py_value.specs.Quoted.{quoted};
-ghost use Rattle.py_value.specs.Texts.{truth_text, listed, tuple_end, str_of, repr_of, element_text};
+ghost use Rattle.py_value.specs.Quoted.{text_literal};
+ghost use Rattle.py_value.specs.Texts.{truth_text, comma_list, tuple_end, str_of, repr_of, element_text};
 ghost use Rattle.py_value.specs.TextSamples.{apostrophe, mixed, one_item, one_pair, slider};
 
 /// `repr` by the types of values, and `str`, which differs from it at a text alone.
@@ -13,15 +13,15 @@ pub fn texts_by_type()
     ensures none { repr_of D.None ≡ codes "None" }
     ensures truth { (b : Bool) → repr_of (D.Bool b) ≡ truth_text b }
     ensures number { (z : ℤ) → repr_of (D.Int z) ≡ signed_decimal z }
-    ensures text { (t : List ℕ) → repr_of (D.Text t) ≡ quoted t }
+    ensures text { (t : List ℕ) → repr_of (D.Text t) ≡ text_literal t }
     ensures list { (items : List Data)
-        → repr_of (D.List items) ≡ codes "[" ++ (listed (map repr_of items) ++ codes "]") }
+        → repr_of (D.List items) ≡ codes "[" ++ (comma_list (map repr_of items) ++ codes "]") }
     ensures tuple { (items : List Data)
         → repr_of (D.Tuple items)
-        ≡ codes "(" ++ (listed (map repr_of items) ++ tuple_end (length items)) }
+        ≡ codes "(" ++ (comma_list (map repr_of items) ++ tuple_end (length items)) }
     ensures dictionary { (pairs : List (Data × Data)) → repr_of (D.Dict pairs)
         ≡ codes "{" ++
-        (listed (map (λ p. repr_of p.0 ++ (codes ": " ++ repr_of p.1)) pairs) ++ codes "}") }
+        (comma_list (map (λ p. repr_of p.0 ++ (codes ": " ++ repr_of p.1)) pairs) ++ codes "}") }
     ensures element { (e : ElementData)
         → repr_of (D.Element e.kind e.name e.params e.initial e.present) ≡ element_text e }
     ensures html { (t : List ℕ) → repr_of (D.Html t) ≡ t }

@@ -1,7 +1,7 @@
 -- Each worked text is computed.
 use Rattle.std.specs.Fmt.{digits}
 use Rattle.py_value.proofs.TextLevels.{repr-None, repr-Bool, repr-Int, repr-Text, repr-List, repr-Tuple, repr-Dict, repr-Element, str-Text}
-use Rattle.py_value.proofs.text_laws.worked_texts.Goals as goal
+use Rattle.py_value.proofs.laws.worked_texts.Goals as goal
 
 pub returns-clause-apostrophe : goal.returns-clause-apostrophe
 returns-clause-apostrophe c = repr-Text _
