@@ -16,7 +16,11 @@ use std::alloc::Global;
 
 /// The parameters of a call. `WrongType` where its arguments don't fit them.
 #[tactic(auto, using(crate::proofs::Fills::givens))]
-pub fn params_of_call(alloc: Global, parameters: &[Parameter], args: &Args) -> Result<Pairs, OpFault>
+pub fn params_of_call(
+    alloc: Global,
+    parameters: &[Parameter],
+    args: &Args,
+) -> Result<Pairs, OpFault>
     ensures ok { IfOk result
         (λ params. params_of_call (parameters_of parameters.now) (arguments_of args.now) ≡ Some params) }
     ensures fault { IfErr result
@@ -107,7 +111,7 @@ fn default_value(alloc: Global, preset: &Preset, earlier: &Pairs) -> Result<Valu
     match preset {
         Preset::Wanted => Err(OpFault::WrongType),
         Preset::Number(n) => Ok(Value::Int(*n)),
-        Preset::EmptyText => Ok(Value::Text(Text::of(String::new(alloc)))),
+        Preset::EmptyText => Ok(Value::Text(Text::new(alloc))),
         Preset::Same(name) => match param(earlier, name) {
             Some(value) => Ok(copy(alloc, value)?),
             None => Err(OpFault::WrongType),

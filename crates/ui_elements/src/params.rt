@@ -62,7 +62,7 @@ pub fn set_param(alloc: Global, params: &mut Pairs, name: &str, value: Value) ->
     ensures ok { OnOk result (params.new ≡ with_pair (D.Text name.now) (data_of value) params.old) }
     ensures fault { IfErr result (λ f. f ≡ OpFault.Memory) }
 {
-    let name = Text::of(String::from_str(alloc, name)?);
+    let name = Text::copied(alloc, name)?;
     params.put(alloc, Value::Text(name), value)
 }
 
