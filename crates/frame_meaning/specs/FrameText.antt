@@ -1,5 +1,5 @@
 -- The text of a frame: compact JSON, the members in the order of their names.
-use Rattle.std.specs.Prelude.{ℕ, ◌/◌, ◌%◌, false, cond, ◌==◌, ◌||◌, nat_lt, List, [], ◌∷◌, ◌++◌, codes, decimal, flat_map, map, Option, Some, None}
+use Rattle.std.specs.Prelude.{ℕ, ◌/◌, ◌%◌, false, if◌then◌else◌, ◌==◌, ◌||◌, nat_lt, List, [], ◌∷◌, ◌++◌, codes, decimal, flat_map, map, Option, Some, None}
 use Rattle.std.specs.List.{join_with_byte}
 use Rattle.std.specs.Fmt.{digit_glyph}
 use Rattle.py_value.specs.declared.error_kind.ErrorKind.{ErrorKind}
@@ -18,13 +18,14 @@ use Rattle.frames.specs.declared.frame.Frame.TheVariants as frame
 -- escape, the other bytes below 32 have `\u00` and two digits, and each other byte stands for itself.
 abbrev pub escaped_byte : ℕ → List ℕ
 escaped_byte b =
-    cond ((b == 34) || (b == 92)) (92 ∷ b ∷ [])
-    (cond (b == 8) (codes "\\b")
-    (cond (b == 9) (codes "\\t")
-    (cond (b == 10) (codes "\\n")
-    (cond (b == 12) (codes "\\f")
-    (cond (b == 13) (codes "\\r")
-    (cond (nat_lt b 32) (codes "\\u00" ++ digit_glyph false (b / 16) ∷ digit_glyph false (b % 16) ∷ []) (b ∷ [])))))))
+    if (b == 34) || (b == 92) then 92 ∷ b ∷ []
+    else if b == 8 then codes "\\b"
+    else if b == 9 then codes "\\t"
+    else if b == 10 then codes "\\n"
+    else if b == 12 then codes "\\f"
+    else if b == 13 then codes "\\r"
+    else if nat_lt b 32 then codes "\\u00" ++ digit_glyph false (b / 16) ∷ digit_glyph false (b % 16) ∷ []
+    else b ∷ []
 
 -- a text as a JSON string
 abbrev pub json_string : List ℕ → List ℕ

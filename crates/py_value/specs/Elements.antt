@@ -1,6 +1,6 @@
 -- Elements of the user interface (marimo's documentation, "Inputs"): what their calls make, what values they admit, and their kinds'
 -- parameters. Sliders are built; calls of the other kinds are outside the language yet.
-use Rattle.std.specs.Prelude.{ℕ, ◌%◌, ◌==◌, Bool, true, false, not, ◌&&◌, cond, List, [], ◌∷◌, length, drop, find, codes, map, ℤ, pos, nat_abs, int_le, Option, Some, None, option_and_then, Result, Ok, Err}
+use Rattle.std.specs.Prelude.{ℕ, ◌%◌, ◌==◌, Bool, true, false, not, ◌&&◌, if◌then◌else◌, List, [], ◌∷◌, length, drop, find, codes, map, ℤ, pos, nat_abs, int_le, Option, Some, None, option_and_then, Result, Ok, Err}
 use Rattle.std.specs.Int.{int_gap}
 use Rattle.std.specs.List.{list_any, list_all}
 use Rattle.std.specs.Str.{bytes_eq}
@@ -114,7 +114,7 @@ params_after (p ∷ ps) places words earlier =
 -- the parameters of a call; none where its arguments don't fit them
 abbrev pub params_of_call : List Parameter → Arguments → Option Params
 params_of_call ps args =
-    cond (are_words_of (drop (length args.places) ps) args.words) (params_after ps args.places args.words []) None
+    if are_words_of (drop (length args.places) ps) args.words then params_after ps args.places args.words [] else None
 
 -- the number that a value is, which a truth value isn't here; none for other values
 abbrev pub number_in : Value → Option ℤ
@@ -157,7 +157,7 @@ slider name params n = record { kind = kind.Slider; name = name; params = params
 -- A slider of these parameters: wrong types come before wrong values. Its first value is in its range, so the start isn't greater
 -- than the stop.
 abbrev pub slider_by : List ℕ → Params → Option Range → Option ℤ → Bool → Result ElementData OpFault
-slider_by name params (Some r) (Some n) true = cond (is_in_range r n) (Ok (slider name params n)) (Err fault.Value)
+slider_by name params (Some r) (Some n) true = if is_in_range r n then Ok (slider name params n) else Err fault.Value
 slider_by name params range n label = Err fault.WrongType
 
 abbrev pub slider_of : List ℕ → Option Params → Result ElementData OpFault
@@ -172,7 +172,7 @@ made kind.Slider name args = slider_of name (params_of_call slider_parameters ar
 made other name args = Err fault.Subset
 
 abbrev pub admits_number : Option Range → Option ℤ → Option Data
-admits_number (Some r) (Some n) = cond (is_in_range r n) (Some (D.Int n)) None
+admits_number (Some r) (Some n) = if is_in_range r n then Some (D.Int n) else None
 admits_number range n = None
 
 abbrev pub admitted_by : Kind → ElementData → Data → Option Data

@@ -1,5 +1,5 @@
 -- `str` and `repr` of values.
-use Rattle.std.specs.Prelude.{ℕ, Bool, true, false, cond, ◌==◌, List, [], ◌∷◌, ◌++◌, codes, flat_map, length, map}
+use Rattle.std.specs.Prelude.{ℕ, Bool, true, false, if◌then◌else◌, ◌==◌, List, [], ◌∷◌, ◌++◌, codes, flat_map, length, map}
 use Rattle.std.specs.Fmt.{signed_decimal}
 use Rattle.py_value.specs.declared.kinds.Kind.{Kind}
 use Rattle.py_value.specs.declared.kinds.Kind.TheVariants as kind
@@ -29,14 +29,14 @@ comma_list (text ∷ texts) = text ++ flat_map (λ t. codes ", " ++ t) texts
 
 -- what stands before the text of an index
 abbrev pub separator : ℕ → List ℕ
-separator i = cond (i == 0) [] (codes ", ")
+separator i = if i == 0 then [] else codes ", "
 
 abbrev pub items_text : List Spelling → List ℕ
 items_text items = comma_list (map (λ s. s.repr) items)
 
 -- what ends a tuple of so many items: one item has a comma after it
 abbrev pub tuple_end : ℕ → List ℕ
-tuple_end n = cond (n == 1) (codes ",)") (codes ")")
+tuple_end n = if n == 1 then codes ",)" else codes ")"
 
 -- `KEY: ITEM`
 abbrev pub pair_text : Spelling × Spelling → List ℕ

@@ -1,1 +1,2 @@
+-- for the law `one_run`
 pub mod OneRun
