@@ -1,5 +1,5 @@
 -- The text of a frame: compact JSON, the members in the order of their names.
-use Rattle.std.specs.Prelude.{ℕ, ◌/◌, ◌%◌, false, cond, ◌==◌, ◌||◌, nat_lt, List, [], ◌∷◌, ◌++◌, codes, decimal, flat_map, map, Option, Some, None}
+use Rattle.std.specs.Prelude.{ℕ, ◌/◌, ◌%◌, false, if◌then◌else◌, ◌==◌, ◌||◌, nat_lt, List, [], ◌∷◌, ◌++◌, codes, decimal, flat_map, map, Option, Some, None}
 use Rattle.std.specs.List.{join_with_byte}
 use Rattle.std.specs.Fmt.{digit_glyph}
 use Rattle.py_value.specs.declared.error_kind.ErrorKind.{ErrorKind}
@@ -18,21 +18,22 @@ use Rattle.frames.specs.declared.frame.Frame.TheVariants as frame
 -- escape, the other bytes below 32 have `\u00` and two digits, and each other byte stands for itself.
 abbrev pub escaped_byte : ℕ → List ℕ
 escaped_byte b =
-    cond ((b == 34) || (b == 92)) (92 ∷ b ∷ [])
-    (cond (b == 8) (codes "\\b")
-    (cond (b == 9) (codes "\\t")
-    (cond (b == 10) (codes "\\n")
-    (cond (b == 12) (codes "\\f")
-    (cond (b == 13) (codes "\\r")
-    (cond (nat_lt b 32) (codes "\\u00" ++ digit_glyph false (b / 16) ∷ digit_glyph false (b % 16) ∷ []) (b ∷ [])))))))
+    if (b == 34) || (b == 92) then 92 ∷ b ∷ []
+    else if b == 8 then codes "\\b"
+    else if b == 9 then codes "\\t"
+    else if b == 10 then codes "\\n"
+    else if b == 12 then codes "\\f"
+    else if b == 13 then codes "\\r"
+    else if nat_lt b 32 then codes "\\u00" ++ digit_glyph false (b / 16) ∷ digit_glyph false (b % 16) ∷ []
+    else b ∷ []
 
 -- a text as a JSON string
-abbrev pub quoted : List ℕ → List ℕ
-quoted text = 34 ∷ flat_map escaped_byte text ++ 34 ∷ []
+abbrev pub json_string : List ℕ → List ℕ
+json_string text = 34 ∷ flat_map escaped_byte text ++ 34 ∷ []
 
 -- `"NAME":VALUE`
 abbrev pub member : List ℕ → List ℕ → List ℕ
-member name value = quoted name ++ 58 ∷ value
+member name value = json_string name ++ 58 ∷ value
 
 -- members in braces, items in brackets, with commas between them
 abbrev pub object : List (List ℕ) → List ℕ
@@ -71,28 +72,28 @@ output_name output.Element = codes "element"
 
 abbrev pub error_text : Option CellError → List ℕ
 error_text None = null
-error_text (Some e) = object (member (codes "kind") (quoted (kind_name e.kind)) ∷ member (codes "line") (decimal e.line) ∷ [])
+error_text (Some e) = object (member (codes "kind") (json_string (kind_name e.kind)) ∷ member (codes "line") (decimal e.line) ∷ [])
 
 abbrev pub output_text : Option Output → List ℕ
 output_text None = null
-output_text (Some o) = object (member (codes "text") (quoted o.text) ∷ member (codes "type") (quoted (output_name o.kind)) ∷ [])
+output_text (Some o) = object (member (codes "text") (json_string o.text) ∷ member (codes "type") (json_string (output_name o.kind)) ∷ [])
 
 abbrev pub cell_text : CellFrame → List ℕ
 cell_text f =
     object (
     member (codes "cell") (decimal f.cell) ∷
-    member (codes "console") (array (map quoted f.console)) ∷
+    member (codes "console") (array (map json_string f.console)) ∷
     member (codes "error") (error_text f.error) ∷
     member (codes "output") (output_text f.output) ∷
-    member (codes "status") (quoted (status_name f.status)) ∷ []
+    member (codes "status") (json_string (status_name f.status)) ∷ []
     )
 
 -- a refusal says what was refused, and for an element its name
 abbrev pub refused_text : List ℕ → List ℕ
-refused_text what = object (member (codes "refused") (quoted what) ∷ [])
+refused_text what = object (member (codes "refused") (json_string what) ∷ [])
 
 abbrev pub named_refused_text : List ℕ → List ℕ → List ℕ
-named_refused_text name what = object (member (codes "name") (quoted name) ∷ member (codes "refused") (quoted what) ∷ [])
+named_refused_text name what = object (member (codes "name") (json_string name) ∷ member (codes "refused") (json_string what) ∷ [])
 
 abbrev pub frame_text : Frame → List ℕ
 frame_text (frame.Cell f) = cell_text f

@@ -1,6 +1,6 @@
 // Files in memory.
 ghost use Rattle.std.specs.Prelude.{◌≡◌, ◌≤◌, Some, length, option_map};
-ghost use Rattle.link_io.specs.Held.{held};
+ghost use Rattle.link_io.specs.FileBytes.{file_bytes};
 ghost use Rattle.link_io.specs.Outside.{ReadsAt};
 
 use crate::files::{Failed, Files};
@@ -21,9 +21,28 @@ pub struct MemFiles {
     pub faults: u64,
 }
 
+impl Files for MemFiles {
+    ghost holds = { λ f name. Some (file_bytes f.files.items name) };
+
+    ghost faults = { λ f. f.faults };
+
+    fn read_at(&mut self, name: &str, from: u64, buf: &mut [u8]) -> Result<usize, Failed> {
+        self.calls = self.calls.saturating_add(1);
+        if self.failing.contains(&self.calls) {
+            self.faults = self.faults.saturating_add(1);
+            return Err(Failed);
+        }
+        let Some(bytes) = bytes_of(&self.files, name) else {
+            self.faults = self.faults.saturating_add(1);
+            return Err(Failed);
+        };
+        Ok(copy_from(bytes, from, buf))
+    }
+}
+
 // The bytes of the first file of the name.
 fn bytes_of<'a>(files: &'a [MemFile], name: &str) -> Option<&'a Vec<u8>>
-    ensures { option_map (λ bytes. bytes.now.items) result ≡ held files.now name.now }
+    ensures { option_map (λ bytes. bytes.now.items) result ≡ file_bytes files.now name.now }
 {
     for file in files {
         if file.name.as_str() == name {
@@ -48,23 +67,4 @@ fn copy_from(bytes: &[u8], from: u64, buf: &mut [u8]) -> usize
     let count = rest.len().min(buf.len());
     buf[..count].copy_from_slice(&rest[..count]);
     count
-}
-
-impl Files for MemFiles {
-    ghost holds = { λ f name. Some (held f.files.items name) };
-
-    ghost faults = { λ f. f.faults };
-
-    fn read_at(&mut self, name: &str, from: u64, buf: &mut [u8]) -> Result<usize, Failed> {
-        self.calls = self.calls.saturating_add(1);
-        if self.failing.contains(&self.calls) {
-            self.faults = self.faults.saturating_add(1);
-            return Err(Failed);
-        }
-        let Some(bytes) = bytes_of(&self.files, name) else {
-            self.faults = self.faults.saturating_add(1);
-            return Err(Failed);
-        };
-        Ok(copy_from(bytes, from, buf))
-    }
 }

@@ -10,13 +10,6 @@ use std::rt::Files as SystemFiles;
 // The most bytes of a path; the system opens no longer one (Linux, `PATH_MAX`).
 const PATH_BYTES: usize = 4096;
 
-// An open file, and the place that its next byte comes from.
-#[derive(Drop)]
-struct Opened<F> {
-    file: F,
-    at: u64,
-}
-
 /// The files of the system, by their paths. The file that was read last stays open, so that to read on needs no seek, and pipes
 /// can be read too.
 #[derive(Drop)]
@@ -27,21 +20,11 @@ pub struct RealFiles<R: SystemFiles> {
     faults: u64,
 }
 
-// Reads once, and again where a signal came between.
-fn read_some<S: Read>(source: &mut S, buf: &mut [u8]) -> Result<usize, Failed>
-    ensures { IfOk result (λ n. n ≤ length buf.old) }
-{
-    for _ in 0..u64::MAX {
-        match source.read(buf) {
-            Ok(count) => return Ok(count),
-            Err(why) => {
-                if why.kind() != ErrorKind::Interrupted {
-                    return Err(Failed);
-                }
-            }
-        }
-    }
-    Err(Failed)
+// An open file, and the place that its next byte comes from.
+#[derive(Drop)]
+struct Opened<F> {
+    file: F,
+    at: u64,
 }
 
 impl<R: SystemFiles> RealFiles<R> {
@@ -115,4 +98,21 @@ impl<R: SystemFiles> Files for RealFiles<R> {
             }
         }
     }
+}
+
+// Reads once, and again where a signal came between.
+fn read_some<S: Read>(source: &mut S, buf: &mut [u8]) -> Result<usize, Failed>
+    ensures { IfOk result (λ n. n ≤ length buf.old) }
+{
+    for _ in 0..u64::MAX {
+        match source.read(buf) {
+            Ok(count) => return Ok(count),
+            Err(why) => {
+                if why.kind() != ErrorKind::Interrupted {
+                    return Err(Failed);
+                }
+            }
+        }
+    }
+    Err(Failed)
 }

@@ -14,37 +14,6 @@ pub enum ReadFault {
     Memory,
 }
 
-// How many bytes one call of the files is asked for, at most.
-const PIECE: usize = 8192;
-
-// Appends what the file has after the bytes, as much as one call gives, and answers how much. It is 0 only at the file's end.
-fn read_piece<F: Files>(
-    files: &mut F,
-    name: &str,
-    bytes: &mut Vec<u8>,
-    buffer: &mut [u8],
-) -> Result<usize, ReadFault>
-    requires { 0 < length buffer.old }
-    ensures read { IfSome (F.holds files.old name.now)
-        (λ told. IfOk result
-        (λ count. (all : List ℕ) × (told ≡ Some all)
-        × HasNext all bytes.old.items bytes.new.items count)) }
-    ensures grown { IfOk result (λ count. length bytes.new.items ≡ length bytes.old.items + count) }
-    ensures within { IfOk result (λ count. count ≤ length buffer.old) }
-    ensures same { (other : List ℕ) → F.holds files.new other ≡ F.holds files.old other }
-    ensures later { F.faults files.old ≤ F.faults files.new }
-    ensures failed { result ≡ Err ReadFault.Failed
-        → Rose (F.faults files.old) (F.faults files.new) }
-{
-    let Ok(count) = files.read_at(name, bytes.len() as u64, buffer) else {
-        return Err(ReadFault::Failed);
-    };
-    match bytes.extend_from_slice(&buffer[..count]) {
-        Ok(()) => Ok(count),
-        Err(_) => Err(ReadFault::Memory),
-    }
-}
-
 /// The bytes of a file, or the first `limit + 1` of them where it has more.
 pub fn read_file<F: Files>(
     alloc: Global,
@@ -74,4 +43,35 @@ pub fn read_file<F: Files>(
         }
     }
     Ok(bytes)
+}
+
+// How many bytes one call of the files is asked for, at most.
+const PIECE: usize = 8192;
+
+// Appends what the file has after the bytes, as much as one call gives, and answers how much. It is 0 only at the file's end.
+fn read_piece<F: Files>(
+    files: &mut F,
+    name: &str,
+    bytes: &mut Vec<u8>,
+    buffer: &mut [u8],
+) -> Result<usize, ReadFault>
+    requires { 0 < length buffer.old }
+    ensures read { IfSome (F.holds files.old name.now)
+        (λ told. IfOk result
+        (λ count. (all : List ℕ) × (told ≡ Some all)
+        × HasNext all bytes.old.items bytes.new.items count)) }
+    ensures grown { IfOk result (λ count. length bytes.new.items ≡ length bytes.old.items + count) }
+    ensures within { IfOk result (λ count. count ≤ length buffer.old) }
+    ensures same { (other : List ℕ) → F.holds files.new other ≡ F.holds files.old other }
+    ensures later { F.faults files.old ≤ F.faults files.new }
+    ensures failed { result ≡ Err ReadFault.Failed
+        → Rose (F.faults files.old) (F.faults files.new) }
+{
+    let Ok(count) = files.read_at(name, bytes.len() as u64, buffer) else {
+        return Err(ReadFault::Failed);
+    };
+    match bytes.extend_from_slice(&buffer[..count]) {
+        Ok(()) => Ok(count),
+        Err(_) => Err(ReadFault::Memory),
+    }
 }

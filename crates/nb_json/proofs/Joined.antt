@@ -2,13 +2,13 @@
 use Rattle.std.proofs.Common.{◌≡◌, ◌∙◌, ap, ℕ, List, [], ◌∷◌, ◌++◌, append_assoc, append-nil}
 use Rattle.std.specs.Prelude.{cond, flat_map, map, Result, Ok, Err, is_ok, OnOk}
 use Rattle.std.specs.List.{join_with_byte}
-use Rattle.frame_meaning.specs.FrameText.{quoted}
+use Rattle.frame_meaning.specs.FrameText.{json_string}
 
 -- each string but the first stands after a comma
 pub joined : (x : List ℕ) (xs : List (List ℕ))
-    → quoted x ++ flat_map (λ line. 44 ∷ quoted line) xs ≡ join_with_byte 44 (map quoted (x ∷ xs))
-joined x [] = append-nil (quoted x)
-joined x (y ∷ ys) = ap (λ z. quoted x ++ 44 ∷ z) (joined y ys)
+    → json_string x ++ flat_map (λ line. 44 ∷ json_string line) xs ≡ join_with_byte 44 (map json_string (x ∷ xs))
+joined x [] = append-nil (json_string x)
+joined x (y ∷ ys) = ap (λ z. json_string x ++ 44 ∷ z) (joined y ys)
 
 -- the last part of a text is appended, where memory is enough
 pub last_part : {E : Type 0} (r : Result (Unit {0}) E) (before part now whole : List ℕ)

@@ -1,2 +1,4 @@
+-- for `push_frame`: members and lists
 pub mod Joined
-pub mod Runs
+-- for `push_frame`: strings
+pub mod PlainBytes

@@ -19,14 +19,33 @@ use py_value::{ErrorKind, Kind, Lines, Text, Value, Values, copy, operand_charge
 use std::alloc::Global;
 use ui_elements::{Args, Words, make};
 
-// Whether the name is one of these.
-fn is_one_of(name: &Text, names: &Lines) -> bool
-    ensures { result ≡ is_among name.now names.now }
+/// The value of a call that is the right side of an assignment to these targets. No calls but those of `mo.ui` are part of the language
+/// yet.
+pub fn called(
+    alloc: Global,
+    targets: &[Spelling],
+    callee: &Expr,
+    arguments: &[Expr],
+    scene: &Scene,
+    env: &Env,
+    line: u32,
+    left: &mut u64,
+) -> Result<Value, Stop>
+    requires { IsTrue (are_levelled_trees (views arguments.now)) }
+    ensures meets { Meets (λ v. v) result left.new
+        (spend (calls_for (scene_of scene.now) env.now line targets.now (view callee.now)
+        (views arguments.now)) left.old []) }
+    ensures used { left.new ≤ left.old }
 {
-    names
-        .items()
-        .iter()
-        .any(|other| other.items() == name.items())
+    if let [name] = targets {
+        if let Some(word) = ui_kind(callee) {
+            if let Some(kind) = Kind::called(word) {
+                return element(alloc, name.items(), kind, arguments, scene, env, line, left);
+            }
+        }
+    }
+    charge(left, 1, line)?;
+    Err(unknown_form(line))
 }
 
 /// The present value of an element, which can't be had in the cell that creates it.
@@ -51,21 +70,28 @@ pub fn present_of(alloc: Global, scene: &Scene, value: &Value, line: u32) -> Res
     Ok(copy(alloc, element.present())?)
 }
 
-// Whether `mo` is bound to the module.
-fn read_module(env: &Env, line: u32) -> Result<(), Stop>
-    ensures { (left : ℕ)
-        → Meets unit result left (spend (read_module line (look_up (codes "mo") env.now)) left []) }
+// The element that `NAME = mo.ui.KIND(ARGUMENTS)` creates.
+fn element(
+    alloc: Global,
+    name: &str,
+    kind: Kind,
+    arguments: &[Expr],
+    scene: &Scene,
+    env: &Env,
+    line: u32,
+    left: &mut u64,
+) -> Result<Value, Stop>
+    requires { IsTrue (are_levelled_trees (views arguments.now)) }
+    ensures meets { Meets (λ v. v) result left.new
+        (spend (element_of (scene_of scene.now) env.now line name.now kind
+        (views arguments.now)) left.old []) }
+    ensures used { left.new ≤ left.old }
 {
-    match env.get("mo") {
-        Some(Binding::Module) => Ok(()),
-        Some(Binding::Plain(_)) => Err(unknown_form(line)),
-        None => {
-            Err(Stop::Fault {
-                kind: ErrorKind::NameError,
-                line,
-            })
-        }
-    }
+    charge(left, 1, line)?;
+    read_module(env, line)?;
+    let places = eval_all(alloc, arguments, scene, env, line, left)?;
+    charge(left, operand_charge(places.as_slice()), line)?;
+    make_element(alloc, name, kind, places, scene, line)
 }
 
 // An element of this kind, at the value that is kept for it where there is one.
@@ -97,55 +123,29 @@ fn make_element(
     }
 }
 
-// The element that `NAME = mo.ui.KIND(ARGUMENTS)` creates.
-fn element(
-    alloc: Global,
-    name: &str,
-    kind: Kind,
-    arguments: &[Expr],
-    scene: &Scene,
-    env: &Env,
-    line: u32,
-    left: &mut u64,
-) -> Result<Value, Stop>
-    requires { IsTrue (are_levelled_trees (views arguments.now)) }
-    ensures meets { Meets (λ v. v) result left.new
-        (spend (element_of (scene_of scene.now) env.now line name.now kind
-        (views arguments.now)) left.old []) }
-    ensures used { left.new ≤ left.old }
+// Whether `mo` is bound to the module.
+fn read_module(env: &Env, line: u32) -> Result<(), Stop>
+    ensures { (left : ℕ)
+        → Meets unit result left (spend (read_module line (look_up (codes "mo") env.now)) left []) }
 {
-    charge(left, 1, line)?;
-    read_module(env, line)?;
-    let places = eval_all(alloc, arguments, scene, env, line, left)?;
-    charge(left, operand_charge(places.as_slice()), line)?;
-    make_element(alloc, name, kind, places, scene, line)
-}
-
-/// The value of a call that is the right side of an assignment to these targets. No calls but those of `mo.ui` are part of the language
-/// yet.
-pub fn called(
-    alloc: Global,
-    targets: &[Spelling],
-    callee: &Expr,
-    arguments: &[Expr],
-    scene: &Scene,
-    env: &Env,
-    line: u32,
-    left: &mut u64,
-) -> Result<Value, Stop>
-    requires { IsTrue (are_levelled_trees (views arguments.now)) }
-    ensures meets { Meets (λ v. v) result left.new
-        (spend (calls_for (scene_of scene.now) env.now line targets.now (view callee.now)
-        (views arguments.now)) left.old []) }
-    ensures used { left.new ≤ left.old }
-{
-    if let [name] = targets {
-        if let Some(word) = ui_kind(callee) {
-            if let Some(kind) = Kind::called(word) {
-                return element(alloc, name.items(), kind, arguments, scene, env, line, left);
-            }
+    match env.get("mo") {
+        Some(Binding::Module) => Ok(()),
+        Some(Binding::Plain(_)) => Err(unknown_form(line)),
+        None => {
+            Err(Stop::Fault {
+                kind: ErrorKind::NameError,
+                line,
+            })
         }
     }
-    charge(left, 1, line)?;
-    Err(unknown_form(line))
+}
+
+// Whether the name is one of these.
+fn is_one_of(name: &Text, names: &Lines) -> bool
+    ensures { result ≡ is_among name.now names.now }
+{
+    names
+        .items()
+        .iter()
+        .any(|other| other.items() == name.items())
 }

@@ -21,60 +21,6 @@ use py_tree::{Expr, Spelling, literal_int};
 use py_value::{ErrorKind, Value, add, copy};
 use std::alloc::Global;
 
-// The value that a name is bound to.
-fn bound_value<'a>(env: &'a Env, name: &str, line: u32) -> Result<&'a Value, Stop>
-    ensures { (left : ℕ)
-        → Meets (λ v. v.now) result left (spend (read line (look_up name.now env.now)) left []) }
-{
-    match env.get(name) {
-        Some(Binding::Plain(value)) => Ok(value),
-        Some(Binding::Module) => Err(unknown_form(line)),
-        None => {
-            Err(Stop::Fault {
-                kind: ErrorKind::NameError,
-                line,
-            })
-        }
-    }
-}
-
-// Whether an attribute is `.value`.
-fn is_value(name: &Spelling) -> bool
-    ensures { result ≡ bytes_eq name.now (codes "value") }
-{
-    name.items() == "value"
-}
-
-// The sum of two values.
-fn sum(left: &Value, right: &Value, line: u32) -> Result<Value, Stop>
-    ensures { (rest : ℕ)
-        → Meets (λ v. v) result rest (spend (result_at line (sum_of left.now right.now)) rest []) }
-{
-    match add(left, right) {
-        Ok(value) => Ok(value),
-        Err(fault) => Err(stop_at(fault, line)),
-    }
-}
-
-// The present value of the element that a name is bound to. The element is only read, and not copied.
-fn present_of_name(
-    alloc: Global,
-    name: &str,
-    scene: &Scene,
-    env: &Env,
-    line: u32,
-    left: &mut u64,
-) -> Result<Value, Stop>
-    ensures meets { Meets (λ v. v) result left.new
-        (spend (value_of (scene_of scene.now) env.now line
-        (trees.name name.now) followed_by meaning.present_of
-        (scene_of scene.now) line) left.old []) }
-    ensures used { left.new ≤ left.old }
-{
-    charge(left, 1, line)?;
-    present_of(alloc, scene, bound_value(env, name, line)?, line)
-}
-
 /// The value of an expression on a line, for which so many steps are left.
 pub fn eval(
     alloc: Global,
@@ -132,4 +78,58 @@ pub fn eval_all(
         values.push(eval(alloc, tree, scene, env, line, left)?)?;
     }
     Ok(values)
+}
+
+// The value that a name is bound to.
+fn bound_value<'a>(env: &'a Env, name: &str, line: u32) -> Result<&'a Value, Stop>
+    ensures { (left : ℕ)
+        → Meets (λ v. v.now) result left (spend (read line (look_up name.now env.now)) left []) }
+{
+    match env.get(name) {
+        Some(Binding::Plain(value)) => Ok(value),
+        Some(Binding::Module) => Err(unknown_form(line)),
+        None => {
+            Err(Stop::Fault {
+                kind: ErrorKind::NameError,
+                line,
+            })
+        }
+    }
+}
+
+// The present value of the element that a name is bound to. The element is only read, and not copied.
+fn present_of_name(
+    alloc: Global,
+    name: &str,
+    scene: &Scene,
+    env: &Env,
+    line: u32,
+    left: &mut u64,
+) -> Result<Value, Stop>
+    ensures meets { Meets (λ v. v) result left.new
+        (spend (value_of (scene_of scene.now) env.now line
+        (trees.name name.now) followed_by meaning.present_of
+        (scene_of scene.now) line) left.old []) }
+    ensures used { left.new ≤ left.old }
+{
+    charge(left, 1, line)?;
+    present_of(alloc, scene, bound_value(env, name, line)?, line)
+}
+
+// Whether an attribute is `.value`.
+fn is_value(name: &Spelling) -> bool
+    ensures { result ≡ bytes_eq name.now (codes "value") }
+{
+    name.items() == "value"
+}
+
+// The sum of two values.
+fn sum(left: &Value, right: &Value, line: u32) -> Result<Value, Stop>
+    ensures { (rest : ℕ)
+        → Meets (λ v. v) result rest (spend (result_at line (sum_of left.now right.now)) rest []) }
+{
+    match add(left, right) {
+        Ok(value) => Ok(value),
+        Err(fault) => Err(stop_at(fault, line)),
+    }
 }

@@ -20,38 +20,59 @@ use py_tree::{Expr, Line, Spelling, Stmt};
 use py_value::{ErrorKind, Text, Value};
 use std::alloc::Global;
 
-// Why a value isn't taken apart for several targets.
-fn unpacking_fault(value: &Value) -> ErrorKind
-    ensures { result ≡ meaning.unpacking_fault value.now }
+/// Runs lines in order, and gives the value of the last one where it is an expression.
+pub fn run_lines(
+    alloc: Global,
+    stmts: &[Stmt],
+    scene: &Scene,
+    env: &mut Env,
+    left: &mut u64,
+) -> Result<Option<Value>, Stop>
+    requires { IsTrue (are_levelled (view_stmts stmts.now)) }
+    ensures meets { Meets (λ last. record { last = last; env = env.new }) result left.new
+        (spend (block_of (scene_of scene.now) env.old (view_stmts stmts.now)) left.old []) }
+    ensures kept { where_name (λ x. not (is_among x (bound (view_stmts stmts.now)))) env.new
+        ≡ where_name (λ x. not (is_among x (bound (view_stmts stmts.now)))) env.old }
+    ensures used { left.new ≤ left.old }
 {
-    match value {
-        Value::Text(_) | Value::List(_) | Value::Tuple(_) | Value::Dict(_) => ErrorKind::Subset,
-        _ => ErrorKind::TypeError,
+    let mut last = None;
+    for stmt in stmts {
+        charge(left, 1, stmt.number)?;
+        last = run_line(alloc, &stmt.line, stmt.number, scene, env, left)?;
     }
+    Ok(last)
 }
 
-// Binds the target of an assignment.
-fn bind_targets(
+// Runs a line after its own charge, and gives its value where it is an expression.
+fn run_line(
     alloc: Global,
-    targets: &[Spelling],
-    value: Value,
-    line: u32,
+    line: &Line,
+    number: u32,
+    scene: &Scene,
     env: &mut Env,
-) -> Result<(), Stop>
-    ensures meets { (left : ℕ)
-        → Meets (λ _. env.new) result left (spend (bind line targets.now value env.old) left []) }
-    ensures kept { where_name (λ x. not (is_among x targets.now)) env.new
-        ≡ where_name (λ x. not (is_among x targets.now)) env.old }
+    left: &mut u64,
+) -> Result<Option<Value>, Stop>
+    requires { IsTrue (is_levelled_head (view_head line.now)) }
+    ensures meets { Meets (λ last. record { last = last; env = env.new }) result left.new
+        (spend (head_of (scene_of scene.now) env.old number (view_head line.now)) left.old []) }
+    ensures kept { where_name (λ x. not (is_among x (head_binds (view_head line.now)))) env.new
+        ≡ where_name (λ x. not (is_among x (head_binds (view_head line.now)))) env.old }
+    ensures used { left.new ≤ left.old }
 {
-    let [target] = targets else {
-        return Err(Stop::Fault {
-            kind: unpacking_fault(&value),
-            line,
-        });
-    };
-    let name = Text::of(String::from_str(alloc, target.items())?);
-    env.put(name, Binding::Plain(value))?;
-    Ok(())
+    match line {
+        Line::Value(tree) => Ok(Some(eval(alloc, tree, scene, env, number, left)?)),
+        Line::Assign(targets, tree) => {
+            let names = targets.items();
+            let value = right_side(alloc, names, tree, scene, env, number, left)?;
+            bind_targets(alloc, names, value, number, env)?;
+            Ok(None)
+        }
+        Line::ImportMo => {
+            let name = Text::of(String::from_str(alloc, "mo")?);
+            env.put(name, Binding::Module)?;
+            Ok(None)
+        }
+    }
 }
 
 // The value of the right side of an assignment.
@@ -90,57 +111,36 @@ fn right_side(
     }
 }
 
-// Runs a line after its own charge, and gives its value where it is an expression.
-fn run_line(
+// Binds the target of an assignment.
+fn bind_targets(
     alloc: Global,
-    line: &Line,
-    number: u32,
-    scene: &Scene,
+    targets: &[Spelling],
+    value: Value,
+    line: u32,
     env: &mut Env,
-    left: &mut u64,
-) -> Result<Option<Value>, Stop>
-    requires { IsTrue (is_levelled_head (view_head line.now)) }
-    ensures meets { Meets (λ last. record { last = last; env = env.new }) result left.new
-        (spend (head_of (scene_of scene.now) env.old number (view_head line.now)) left.old []) }
-    ensures kept { where_name (λ x. not (is_among x (head_binds (view_head line.now)))) env.new
-        ≡ where_name (λ x. not (is_among x (head_binds (view_head line.now)))) env.old }
-    ensures used { left.new ≤ left.old }
+) -> Result<(), Stop>
+    ensures meets { (left : ℕ)
+        → Meets (λ _. env.new) result left (spend (bind line targets.now value env.old) left []) }
+    ensures kept { where_name (λ x. not (is_among x targets.now)) env.new
+        ≡ where_name (λ x. not (is_among x targets.now)) env.old }
 {
-    match line {
-        Line::Value(tree) => Ok(Some(eval(alloc, tree, scene, env, number, left)?)),
-        Line::Assign(targets, tree) => {
-            let names = targets.items();
-            let value = right_side(alloc, names, tree, scene, env, number, left)?;
-            bind_targets(alloc, names, value, number, env)?;
-            Ok(None)
-        }
-        Line::ImportMo => {
-            let name = Text::of(String::from_str(alloc, "mo")?);
-            env.put(name, Binding::Module)?;
-            Ok(None)
-        }
-    }
+    let [target] = targets else {
+        return Err(Stop::Fault {
+            kind: unpacking_fault(&value),
+            line,
+        });
+    };
+    let name = Text::of(String::from_str(alloc, target.items())?);
+    env.put(name, Binding::Plain(value))?;
+    Ok(())
 }
 
-/// Runs lines in order, and gives the value of the last one where it is an expression.
-pub fn run_lines(
-    alloc: Global,
-    stmts: &[Stmt],
-    scene: &Scene,
-    env: &mut Env,
-    left: &mut u64,
-) -> Result<Option<Value>, Stop>
-    requires { IsTrue (are_levelled (view_stmts stmts.now)) }
-    ensures meets { Meets (λ last. record { last = last; env = env.new }) result left.new
-        (spend (block_of (scene_of scene.now) env.old (view_stmts stmts.now)) left.old []) }
-    ensures kept { where_name (λ x. not (is_among x (bound (view_stmts stmts.now)))) env.new
-        ≡ where_name (λ x. not (is_among x (bound (view_stmts stmts.now)))) env.old }
-    ensures used { left.new ≤ left.old }
+// Why a value isn't taken apart for several targets.
+fn unpacking_fault(value: &Value) -> ErrorKind
+    ensures { result ≡ meaning.unpacking_fault value.now }
 {
-    let mut last = None;
-    for stmt in stmts {
-        charge(left, 1, stmt.number)?;
-        last = run_line(alloc, &stmt.line, stmt.number, scene, env, left)?;
+    match value {
+        Value::Text(_) | Value::List(_) | Value::Tuple(_) | Value::Dict(_) => ErrorKind::Subset,
+        _ => ErrorKind::TypeError,
     }
-    Ok(last)
 }

@@ -13,7 +13,7 @@ use Rattle.std.specs.BTreeMap.{is_at, insert_entry}
 use Rattle.std.proofs.lemmas.Map.Text.{is_eq-slice_cmp}
 use Rattle.std.proofs.lemmas.Slice.Eq.{bytes_eq-Decides}
 use Rattle.py_value.specs.Maps.{Map, look_up, put, put_by, where_name}
-use Rattle.py_value.specs.Named.{named}
+use Rattle.py_value.specs.Named.{name_entries}
 
 same_bytes : (xs ys : List ℕ) (a b : Bool) → a ≡ bytes_eq xs ys → b ≡ bytes_eq ys xs → a ≡ b
 same_bytes xs ys true true p q = refl
@@ -30,18 +30,18 @@ test name = is_at (λ k. slice_cmp nat_cmp name (string_bytes k))
 test_is : (name : List ℕ) (k : String Global) → test name k ≡ bytes_eq (string_bytes k) name
 test_is name k = is_eq-slice_cmp name (string_bytes k) ∙ same_bytes name (string_bytes k) _ _ refl refl
 
-pub looked_up : {V : Type 0} (name : List ℕ) (es : List (String Global × V)) → lookup (test name) es ≡ look_up name (named es)
+pub looked_up : {V : Type 0} (name : List ℕ) (es : List (String Global × V)) → lookup (test name) es ≡ look_up name (name_entries es)
 looked_up name [] = refl
 looked_up name (e ∷ es) = λ i. cond (test_is name e.0 i) (Some e.1) (looked_up name es i)
 
 inserted_by : {V : Type 0} (o : Ordering) (k : String Global) (v : V) (e : String Global × V) (es later : List (String Global × V)) (after : Map V) →
-    named later ≡ after →
-    named (match_ordering o ((k, v) ∷ e ∷ es) ((e.0, v) ∷ es) (e ∷ later)) ≡ put_by o (string_bytes k) v (string_bytes e.0, e.1) (named es) after
+    name_entries later ≡ after →
+    name_entries (match_ordering o ((k, v) ∷ e ∷ es) ((e.0, v) ∷ es) (e ∷ later)) ≡ put_by o (string_bytes k) v (string_bytes e.0, e.1) (name_entries es) after
 inserted_by Less k v e es later after h = refl
 inserted_by Equal k v e es later after h = refl
 inserted_by Greater k v e es later after h = λ i. (string_bytes e.0, e.1) ∷ h i
 
-pub inserted : {V : Type 0} (k : String Global) (v : V) (es : List (String Global × V)) → named (insert_entry string_cmp es k v) ≡ put (string_bytes k) v (named es)
+pub inserted : {V : Type 0} (k : String Global) (v : V) (es : List (String Global × V)) → name_entries (insert_entry string_cmp es k v) ≡ put (string_bytes k) v (name_entries es)
 inserted k v [] = refl
 inserted k v (e ∷ es) = inserted_by (string_cmp k e.0) k v e es _ _ (inserted k v es)
 
@@ -59,21 +59,21 @@ absent name [] h = refl
 absent name (e ∷ es) h = absent_by (bytes_eq e.0 name) e.1 name e es h (absent name es)
 
 removed_by : {V : Type 0} (b : Bool) (name : List ℕ) (e : String Global × V) (es later : List (String Global × V)) → test name e.0 ≡ b →
-    (lookup (test name) later ≡ None → named later ≡ where_name (other name) (named es)) → lookup (test name) (cond b es (e ∷ later)) ≡ None →
-    named (cond b es (e ∷ later)) ≡ cond (not b) ((string_bytes e.0, e.1) ∷ where_name (other name) (named es)) (where_name (other name) (named es))
-removed_by true name e es later is more h = sym (absent name (named es) (sym (looked_up name es) ∙ h))
+    (lookup (test name) later ≡ None → name_entries later ≡ where_name (other name) (name_entries es)) → lookup (test name) (cond b es (e ∷ later)) ≡ None →
+    name_entries (cond b es (e ∷ later)) ≡ cond (not b) ((string_bytes e.0, e.1) ∷ where_name (other name) (name_entries es)) (where_name (other name) (name_entries es))
+removed_by true name e es later is more h = sym (absent name (name_entries es) (sym (looked_up name es) ∙ h))
 removed_by false name e es later is more h =
     let rest : lookup (test name) later ≡ None = sym (ap (λ b. cond b (Some e.1) (lookup (test name) later)) is) ∙ h in
     λ i. (string_bytes e.0, e.1) ∷ more rest i
 
 removed_once : {V : Type 0} (name : List ℕ) (es : List (String Global × V)) → lookup (test name) (remove_entry (test name) es) ≡ None →
-    named (remove_entry (test name) es) ≡ where_name (other name) (named es)
+    name_entries (remove_entry (test name) es) ≡ where_name (other name) (name_entries es)
 removed_once name [] h = refl
 removed_once name (e ∷ es) h =
     removed_by (test name e.0) name e es (remove_entry (test name) es) refl (removed_once name es) h
-    ∙ λ i. cond (not (test_is name e.0 i)) ((string_bytes e.0, e.1) ∷ where_name (other name) (named es)) (where_name (other name) (named es))
+    ∙ λ i. cond (not (test_is name e.0 i)) ((string_bytes e.0, e.1) ∷ where_name (other name) (name_entries es)) (where_name (other name) (name_entries es))
 
 -- a name that isn't found any more after one entry is taken out
 pub removed : {V : Type 0} (name : List ℕ) (es later : List (String Global × V)) → later ≡ remove_entry (test name) es → lookup (test name) later ≡ None →
-    named later ≡ where_name (other name) (named es)
-removed name es later is h = ap named is ∙ removed_once name es (sym (ap (lookup (test name)) is) ∙ h)
+    name_entries later ≡ where_name (other name) (name_entries es)
+removed name es later is h = ap name_entries is ∙ removed_once name es (sym (ap (lookup (test name)) is) ∙ h)

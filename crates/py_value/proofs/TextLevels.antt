@@ -13,35 +13,35 @@ use Rattle.py_value.specs.declared.types.Value.{Value}
 use Rattle.py_value.specs.declared.types.Value.TheVariants as V
 use Rattle.py_value.specs.View.{data_of, value_of, all_of, pairs_of}
 use Rattle.py_value.proofs.Levels.{data_of-value_of}
-use Rattle.py_value.specs.Quoted.{quoted}
-use Rattle.py_value.specs.Texts.{Spelling, alike, truth_text, listed, separator, tuple_end, items_text, pair_text, pairs_text, param_text, params_text, shown, spelling_step, spelling_of, spelling_of_pair, str_of, repr_of}
+use Rattle.py_value.specs.Quoted.{text_literal}
+use Rattle.py_value.specs.Texts.{Spelling, plain_spelling, truth_text, comma_list, separator, tuple_end, items_text, pair_text, pairs_text, param_text, params_text, shown, spelling_step, spelling_of, spelling_of_pair, str_of, repr_of}
 
 -- each level
-spelling-None : spelling_of D.None ≡ alike (codes "None")
+spelling-None : spelling_of D.None ≡ plain_spelling (codes "None")
 spelling-None = ap (fold-Data Spelling spelling_step) (sym rolls-None) ∙ fold-roll-Data Spelling spelling_step _
 
-spelling-Bool : (b : Bool) → spelling_of (D.Bool b) ≡ alike (truth_text b)
+spelling-Bool : (b : Bool) → spelling_of (D.Bool b) ≡ plain_spelling (truth_text b)
 spelling-Bool b = ap (fold-Data Spelling spelling_step) (sym (rolls-Bool b)) ∙ fold-roll-Data Spelling spelling_step _
 
-spelling-Int : (n : _) → spelling_of (D.Int n) ≡ alike (signed_decimal n)
+spelling-Int : (n : _) → spelling_of (D.Int n) ≡ plain_spelling (signed_decimal n)
 spelling-Int n = ap (fold-Data Spelling spelling_step) (sym (rolls-Int n)) ∙ fold-roll-Data Spelling spelling_step _
 
-spelling-Text : (t : List ℕ) → spelling_of (D.Text t) ≡ record { str = t; repr = quoted t }
+spelling-Text : (t : List ℕ) → spelling_of (D.Text t) ≡ record { str = t; repr = text_literal t }
 spelling-Text t = ap (fold-Data Spelling spelling_step) (sym (rolls-Text t)) ∙ fold-roll-Data Spelling spelling_step _
 
-spelling-List : (ds : List Data) → spelling_of (D.List ds) ≡ alike (codes "[" ++ (items_text (map spelling_of ds) ++ codes "]"))
+spelling-List : (ds : List Data) → spelling_of (D.List ds) ≡ plain_spelling (codes "[" ++ (items_text (map spelling_of ds) ++ codes "]"))
 spelling-List ds = ap (fold-Data Spelling spelling_step) (sym (rolls-List ds)) ∙ fold-roll-Data Spelling spelling_step _
 
-spelling-Tuple : (ds : List Data) → spelling_of (D.Tuple ds) ≡ alike (codes "(" ++ (items_text (map spelling_of ds) ++ tuple_end (length (map spelling_of ds))))
+spelling-Tuple : (ds : List Data) → spelling_of (D.Tuple ds) ≡ plain_spelling (codes "(" ++ (items_text (map spelling_of ds) ++ tuple_end (length (map spelling_of ds))))
 spelling-Tuple ds = ap (fold-Data Spelling spelling_step) (sym (rolls-Tuple ds)) ∙ fold-roll-Data Spelling spelling_step _
 
-spelling-Dict : (ps : List (Data × Data)) → spelling_of (D.Dict ps) ≡ alike (codes "{" ++ (pairs_text (map spelling_of_pair ps) ++ codes "}"))
+spelling-Dict : (ps : List (Data × Data)) → spelling_of (D.Dict ps) ≡ plain_spelling (codes "{" ++ (pairs_text (map spelling_of_pair ps) ++ codes "}"))
 spelling-Dict ps = ap (fold-Data Spelling spelling_step) (sym (rolls-Dict ps)) ∙ fold-roll-Data Spelling spelling_step _
 
-spelling-Element : (k : Kind) (t : List ℕ) (ps : List (Data × Data)) (m n : Data) → spelling_of (D.Element k t ps m n) ≡ alike (shown k t (map spelling_of_pair ps))
+spelling-Element : (k : Kind) (t : List ℕ) (ps : List (Data × Data)) (m n : Data) → spelling_of (D.Element k t ps m n) ≡ plain_spelling (shown k t (map spelling_of_pair ps))
 spelling-Element k t ps m n = ap (fold-Data Spelling spelling_step) (sym (rolls-Element k t ps m n)) ∙ fold-roll-Data Spelling spelling_step _
 
-spelling-Html : (t : List ℕ) → spelling_of (D.Html t) ≡ alike t
+spelling-Html : (t : List ℕ) → spelling_of (D.Html t) ≡ plain_spelling t
 spelling-Html t = ap (fold-Data Spelling spelling_step) (sym (rolls-Html t)) ∙ fold-roll-Data Spelling spelling_step _
 
 abbrev repr : Spelling → List ℕ
@@ -57,7 +57,7 @@ repr-Bool b = ap repr (spelling-Bool b)
 pub repr-Int : (n : _) → repr_of (D.Int n) ≡ signed_decimal n
 repr-Int n = ap repr (spelling-Int n)
 
-pub repr-Text : (t : List ℕ) → repr_of (D.Text t) ≡ quoted t
+pub repr-Text : (t : List ℕ) → repr_of (D.Text t) ≡ text_literal t
 repr-Text t = ap repr (spelling-Text t)
 
 pub repr-List : (ds : List Data) → repr_of (D.List ds) ≡ codes "[" ++ (items_text (map spelling_of ds) ++ codes "]")
@@ -88,7 +88,7 @@ abbrev pub str_by : Value → List ℕ
 str_by (V.Text t) = t
 str_by v = repr_of (data_of v)
 
-both : (t : List ℕ) (s : Spelling) → s ≡ alike t → s.str ≡ s.repr
+both : (t : List ℕ) (s : Spelling) → s ≡ plain_spelling t → s.str ≡ s.repr
 both t s h = ap (λ (s : Spelling). s.str) h ∙ sym (ap repr h)
 
 pub str_is : (v : Value) → str_of (data_of v) ≡ str_by v
@@ -109,15 +109,15 @@ reprs : (ds : List Data) → map repr (map spelling_of ds) ≡ map repr_of ds
 reprs [] = refl
 reprs (d ∷ ds) = ap (λ z. repr_of d ∷ z) (reprs ds)
 
-pub items_are : (ds : List Data) → items_text (map spelling_of ds) ≡ listed (map repr_of ds)
-items_are ds = ap listed (reprs ds)
+pub items_are : (ds : List Data) → items_text (map spelling_of ds) ≡ comma_list (map repr_of ds)
+items_are ds = ap comma_list (reprs ds)
 
 pair_reprs : (ps : List (Data × Data)) → map pair_text (map spelling_of_pair ps) ≡ map (λ (p : Data × Data). repr_of p.0 ++ (codes ": " ++ repr_of p.1)) ps
 pair_reprs [] = refl
 pair_reprs (p ∷ ps) = ap (λ z. (repr_of p.0 ++ (codes ": " ++ repr_of p.1)) ∷ z) (pair_reprs ps)
 
-pub pairs_are : (ps : List (Data × Data)) → pairs_text (map spelling_of_pair ps) ≡ listed (map (λ (p : Data × Data). repr_of p.0 ++ (codes ": " ++ repr_of p.1)) ps)
-pairs_are ps = ap listed (pair_reprs ps)
+pub pairs_are : (ps : List (Data × Data)) → pairs_text (map spelling_of_pair ps) ≡ comma_list (map (λ (p : Data × Data). repr_of p.0 ++ (codes ": " ++ repr_of p.1)) ps)
+pairs_are ps = ap comma_list (pair_reprs ps)
 
 other_str : (v : Value) → ((t : List ℕ) → data_of v ≢ D.Text t) → str_of (data_of v) ≡ repr_of (data_of v)
 other_str (V.Text t) h = absurd (h t refl)
@@ -129,13 +129,13 @@ str_of_others d h =
     subst Same (data_of-value_of d) (other_str (value_of d)) h
 
 -- one more text in a list
-listed_last : (ts : List (List ℕ)) (t : List ℕ) → listed (ts ++ t ∷ []) ≡ listed ts ++ (separator (length ts) ++ t)
+listed_last : (ts : List (List ℕ)) (t : List ℕ) → comma_list (ts ++ t ∷ []) ≡ comma_list ts ++ (separator (length ts) ++ t)
 listed_last [] t = append-nil t
 listed_last (u ∷ us) t =
     let later : (length (u ∷ us) == 0) ≡ false = grind (arith, nat_tests) in
     ap (λ z. u ++ z) (flat_map-append (λ x. codes ", " ++ x) us (t ∷ []) ∙ ap (λ z. flat_map (λ x. codes ", " ++ x) us ++ z) (append-nil (codes ", " ++ t)))
     ∙ sym (append_assoc u (flat_map (λ x. codes ", " ++ x) us) (codes ", " ++ t))
-    ∙ ap (λ b. listed (u ∷ us) ++ (cond b [] (codes ", ") ++ t)) (sym later)
+    ∙ ap (λ b. comma_list (u ∷ us) ++ (cond b [] (codes ", ") ++ t)) (sym later)
 
 -- one more item
 items_next : (vs : List Value) (i : ℕ) (d : Value) → i < length vs
@@ -154,7 +154,7 @@ pub items_more : (vs : List Value) (i : ℕ) (d : Value) → i < length vs
 items_more vs i d h =
     let long : length (map repr (map spelling_of (all_of (take i vs)))) ≡ i = items_long vs i (omega arith) in
     rw add-one
-    (ap listed (items_next vs i d h) ∙ listed_last (map repr (map spelling_of (all_of (take i vs)))) (repr_of (data_of (get_or vs i d)))
+    (ap comma_list (items_next vs i d h) ∙ listed_last (map repr (map spelling_of (all_of (take i vs)))) (repr_of (data_of (get_or vs i d)))
     ∙ ap (λ n. items_text (map spelling_of (all_of (take i vs))) ++ (separator n ++ repr_of (data_of (get_or vs i d)))) long)
 
 -- one more pair
@@ -178,7 +178,7 @@ pub pairs_more : (ps : List (Value × Value)) (i : ℕ) (d : Value × Value) →
 pairs_more ps i d h =
     let long : length (map pair_text (map spelling_of_pair (pairs_of (take i ps)))) ≡ i = pairs_long ps i (omega arith) in
     rw add-one
-    (ap listed (pairs_next ps i d h) ∙ listed_last (map pair_text (map spelling_of_pair (pairs_of (take i ps)))) (pair_text (spelled (get_or ps i d)))
+    (ap comma_list (pairs_next ps i d h) ∙ listed_last (map pair_text (map spelling_of_pair (pairs_of (take i ps)))) (pair_text (spelled (get_or ps i d)))
     ∙ ap (λ n. pairs_text (map spelling_of_pair (pairs_of (take i ps))) ++ (separator n ++ pair_text (spelled (get_or ps i d)))) long)
 
 -- one more parameter

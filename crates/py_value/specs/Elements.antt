@@ -1,6 +1,6 @@
 -- Elements of the user interface (marimo's documentation, "Inputs"): what their calls make, what values they admit, and their kinds'
 -- parameters. Sliders are built; calls of the other kinds are outside the language yet.
-use Rattle.std.specs.Prelude.{ℕ, ◌%◌, ◌==◌, Bool, true, false, not, ◌&&◌, cond, List, [], ◌∷◌, length, drop, find, codes, map, ℤ, pos, nat_abs, int_le, Option, Some, None, option_and_then, Result, Ok, Err}
+use Rattle.std.specs.Prelude.{ℕ, ◌%◌, ◌==◌, Bool, true, false, not, ◌&&◌, if◌then◌else◌, List, [], ◌∷◌, length, drop, find, codes, map, ℤ, pos, nat_abs, int_le, Option, Some, None, option_and_then, Result, Ok, Err}
 use Rattle.std.specs.Int.{int_gap}
 use Rattle.std.specs.List.{list_any, list_all}
 use Rattle.std.specs.Str.{bytes_eq}
@@ -94,27 +94,27 @@ default_of (Constant d) earlier = Some d
 default_of (Same other) earlier = param other earlier
 
 -- the argument by name, else the default
-abbrev pub chosen : Option Data → Default → Params → Option Data
-chosen (Some d) default earlier = Some d
-chosen None default earlier = default_of default earlier
+abbrev pub word_or_default : Option Data → Default → Params → Option Data
+word_or_default (Some d) default earlier = Some d
+word_or_default None default earlier = default_of default earlier
 
 -- what a parameter is: the first of the arguments by place that are left, else the one of its name, else its default. None where
 -- it is wanting
 abbrev pub argument : Parameter → List Data → Named → Params → Option Data
 argument p (d ∷ ds) words earlier = Some d
-argument p [] words earlier = chosen (look_up p.name words) p.default earlier
+argument p [] words earlier = word_or_default (look_up p.name words) p.default earlier
 
 -- What the parameters are, behind those before them. None where there are more arguments than places, or one is wanting.
-abbrev pub filled : List Parameter → List Data → Named → Params → Option Params
-filled [] [] words earlier = Some earlier
-filled [] (d ∷ ds) words earlier = None
-filled (p ∷ ps) places words earlier =
-    option_and_then (λ d. filled ps (drop 1 places) words (with_pair (D.Text p.name) d earlier)) (argument p places words earlier)
+abbrev pub params_after : List Parameter → List Data → Named → Params → Option Params
+params_after [] [] words earlier = Some earlier
+params_after [] (d ∷ ds) words earlier = None
+params_after (p ∷ ps) places words earlier =
+    option_and_then (λ d. params_after ps (drop 1 places) words (with_pair (D.Text p.name) d earlier)) (argument p places words earlier)
 
 -- the parameters of a call; none where its arguments don't fit them
-abbrev pub given : List Parameter → Arguments → Option Params
-given ps args =
-    cond (are_words_of (drop (length args.places) ps) args.words) (filled ps args.places args.words []) None
+abbrev pub params_of_call : List Parameter → Arguments → Option Params
+params_of_call ps args =
+    if are_words_of (drop (length args.places) ps) args.words then params_after ps args.places args.words [] else None
 
 -- the number that a value is, which a truth value isn't here; none for other values
 abbrev pub number_in : Value → Option ℤ
@@ -157,7 +157,7 @@ slider name params n = record { kind = kind.Slider; name = name; params = params
 -- A slider of these parameters: wrong types come before wrong values. Its first value is in its range, so the start isn't greater
 -- than the stop.
 abbrev pub slider_by : List ℕ → Params → Option Range → Option ℤ → Bool → Result ElementData OpFault
-slider_by name params (Some r) (Some n) true = cond (is_in_range r n) (Ok (slider name params n)) (Err fault.Value)
+slider_by name params (Some r) (Some n) true = if is_in_range r n then Ok (slider name params n) else Err fault.Value
 slider_by name params range n label = Err fault.WrongType
 
 abbrev pub slider_of : List ℕ → Option Params → Result ElementData OpFault
@@ -168,11 +168,11 @@ slider_of name (Some params) =
 -- The element that a call makes, at its initial value. Wrong, wanting or repeated arguments and wrong types are a `TypeError`,
 -- wrong values a `ValueError`.
 abbrev pub made : Kind → List ℕ → Arguments → Result ElementData OpFault
-made kind.Slider name args = slider_of name (given slider_parameters args)
+made kind.Slider name args = slider_of name (params_of_call slider_parameters args)
 made other name args = Err fault.Subset
 
 abbrev pub admits_number : Option Range → Option ℤ → Option Data
-admits_number (Some r) (Some n) = cond (is_in_range r n) (Some (D.Int n)) None
+admits_number (Some r) (Some n) = if is_in_range r n then Some (D.Int n) else None
 admits_number range n = None
 
 abbrev pub admitted_by : Kind → ElementData → Data → Option Data

@@ -1,5 +1,5 @@
 -- Finite maps from names: their entries, each name once, in the order of bytes.
-use Rattle.std.specs.Prelude.{◌≡◌, ℕ, Bool, cond, List, [], ◌∷◌, Option, Some, None}
+use Rattle.std.specs.Prelude.{◌≡◌, ℕ, Bool, if◌then◌else◌, List, [], ◌∷◌, Option, Some, None}
 use Rattle.std.specs.Str.{bytes_eq}
 use Rattle.std.specs.Cmp.Lexicographic.{slice_cmp}
 use Rattle.std.specs.Ordering.{nat_cmp}
@@ -12,7 +12,7 @@ Map V = List (List ℕ × V)
 -- what the map has at a name
 abbrev pub look_up : {V : Type 0} → List ℕ → Map V → Option V
 look_up name [] = None
-look_up name (e ∷ es) = cond (bytes_eq e.0 name) (Some e.1) (look_up name es)
+look_up name (e ∷ es) = if bytes_eq e.0 name then Some e.1 else look_up name es
 
 abbrev pub put_by : {V : Type 0} → Ordering → List ℕ → V → List ℕ × V → Map V → Map V → Map V
 put_by Less name v e es later = (name, v) ∷ e ∷ es
@@ -27,7 +27,7 @@ put name v (e ∷ es) = put_by (slice_cmp nat_cmp name e.0) name v e es (put nam
 -- the entries whose names pass the test
 abbrev pub where_name : {V : Type 0} → (List ℕ → Bool) → Map V → Map V
 where_name p [] = []
-where_name p (e ∷ es) = cond (p e.0) (e ∷ where_name p es) (where_name p es)
+where_name p (e ∷ es) = if p e.0 then e ∷ where_name p es else where_name p es
 
 -- the name is less than the first one of the map
 abbrev pub IsBelow : {V : Type 0} → List ℕ → Map V → Type 0

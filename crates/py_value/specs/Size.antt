@@ -8,8 +8,8 @@ use Rattle.py_value.specs.declared.types.Value.{Value}
 use Rattle.py_value.specs.declared.types.Value.TheVariants as V
 
 -- what a count of 64 bits shows of a number
-abbrev pub capped : ℕ → ℕ
-capped n = min n (2 ^ 64 - 1)
+abbrev pub cap : ℕ → ℕ
+cap n = min n (2 ^ 64 - 1)
 
 -- the sum of several
 abbrev pub total : List ℕ → ℕ
@@ -58,4 +58,4 @@ abbrev pub charges_of : List Value → ℕ
 charges_of operands = total (map (λ v. charge_step v (size_of (data_of v))) operands)
 
 abbrev pub charge_of : List Value → ℕ
-charge_of operands = capped (charges_of operands)
+charge_of operands = cap (charges_of operands)

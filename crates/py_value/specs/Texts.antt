@@ -1,5 +1,5 @@
 -- `str` and `repr` of values.
-use Rattle.std.specs.Prelude.{ℕ, Bool, true, false, cond, ◌==◌, List, [], ◌∷◌, ◌++◌, codes, flat_map, length, map}
+use Rattle.std.specs.Prelude.{ℕ, Bool, true, false, if◌then◌else◌, ◌==◌, List, [], ◌∷◌, ◌++◌, codes, flat_map, length, map}
 use Rattle.std.specs.Fmt.{signed_decimal}
 use Rattle.py_value.specs.declared.kinds.Kind.{Kind}
 use Rattle.py_value.specs.declared.kinds.Kind.TheVariants as kind
@@ -7,7 +7,7 @@ use Rattle.py_value.specs.declared.types.Data.{Data}
 use Rattle.py_value.specs.declared.types.Data.TheOpen.{Data-F}
 use Rattle.py_value.specs.declared.types.Data.TheFolds.{fold-Data}
 use Rattle.py_value.specs.ElementData.{ElementData}
-use Rattle.py_value.specs.Quoted.{quoted}
+use Rattle.py_value.specs.Quoted.{text_literal}
 
 -- the two texts of a value
 pub record Spelling : Type 0 where
@@ -15,35 +15,35 @@ pub record Spelling : Type 0 where
   pub repr : List ℕ
 
 -- a value whose `str` is its `repr`
-abbrev pub alike : List ℕ → Spelling
-alike text = record { str = text; repr = text }
+abbrev pub plain_spelling : List ℕ → Spelling
+plain_spelling text = record { str = text; repr = text }
 
 abbrev pub truth_text : Bool → List ℕ
 truth_text true = codes "True"
 truth_text false = codes "False"
 
 -- texts with `, ` between them
-abbrev pub listed : List (List ℕ) → List ℕ
-listed [] = []
-listed (text ∷ texts) = text ++ flat_map (λ t. codes ", " ++ t) texts
+abbrev pub comma_list : List (List ℕ) → List ℕ
+comma_list [] = []
+comma_list (text ∷ texts) = text ++ flat_map (λ t. codes ", " ++ t) texts
 
 -- what stands before the text of an index
 abbrev pub separator : ℕ → List ℕ
-separator i = cond (i == 0) [] (codes ", ")
+separator i = if i == 0 then [] else codes ", "
 
 abbrev pub items_text : List Spelling → List ℕ
-items_text items = listed (map (λ s. s.repr) items)
+items_text items = comma_list (map (λ s. s.repr) items)
 
 -- what ends a tuple of so many items: one item has a comma after it
 abbrev pub tuple_end : ℕ → List ℕ
-tuple_end n = cond (n == 1) (codes ",)") (codes ")")
+tuple_end n = if n == 1 then codes ",)" else codes ")"
 
 -- `KEY: ITEM`
 abbrev pub pair_text : Spelling × Spelling → List ℕ
 pair_text p = p.0.repr ++ (codes ": " ++ p.1.repr)
 
 abbrev pub pairs_text : List (Spelling × Spelling) → List ℕ
-pairs_text pairs = listed (map pair_text pairs)
+pairs_text pairs = comma_list (map pair_text pairs)
 
 abbrev pub kind_name : Kind → List ℕ
 kind_name kind.Slider = codes "slider"
@@ -69,15 +69,15 @@ shown kind name params = codes "<" ++ (kind_name kind ++ (codes " " ++ (name ++ 
 
 -- the texts of a level whose parts come as their texts
 abbrev pub spelling_step : Data-F Spelling → Spelling
-spelling_step Data-F.None = alike (codes "None")
-spelling_step (Data-F.Bool b) = alike (truth_text b)
-spelling_step (Data-F.Int n) = alike (signed_decimal n)
-spelling_step (Data-F.Text t) = record { str = t; repr = quoted t }
-spelling_step (Data-F.List items) = alike (codes "[" ++ (items_text items ++ codes "]"))
-spelling_step (Data-F.Tuple items) = alike (codes "(" ++ (items_text items ++ tuple_end (length items)))
-spelling_step (Data-F.Dict pairs) = alike (codes "{" ++ (pairs_text pairs ++ codes "}"))
-spelling_step (Data-F.Element kind name params initial present) = alike (shown kind name params)
-spelling_step (Data-F.Html t) = alike t
+spelling_step Data-F.None = plain_spelling (codes "None")
+spelling_step (Data-F.Bool b) = plain_spelling (truth_text b)
+spelling_step (Data-F.Int n) = plain_spelling (signed_decimal n)
+spelling_step (Data-F.Text t) = record { str = t; repr = text_literal t }
+spelling_step (Data-F.List items) = plain_spelling (codes "[" ++ (items_text items ++ codes "]"))
+spelling_step (Data-F.Tuple items) = plain_spelling (codes "(" ++ (items_text items ++ tuple_end (length items)))
+spelling_step (Data-F.Dict pairs) = plain_spelling (codes "{" ++ (pairs_text pairs ++ codes "}"))
+spelling_step (Data-F.Element kind name params initial present) = plain_spelling (shown kind name params)
+spelling_step (Data-F.Html t) = plain_spelling t
 
 abbrev pub spelling_of : Data → Spelling
 spelling_of = fold-Data Spelling spelling_step

@@ -1,5 +1,5 @@
 -- Whole numbers of signed 128 bits, and sums.
-use Rattle.std.specs.Prelude.{◌^◌, ℤ, pos, negsuc, ◌+ℤ◌, Bool, true, false, nat_lt, Option, Some, None, Result, Ok, Err, cond}
+use Rattle.std.specs.Prelude.{◌^◌, ℤ, pos, negsuc, ◌+ℤ◌, Bool, true, false, nat_lt, Option, Some, None, Result, Ok, Err, if◌then◌else◌}
 use Rattle.py_value.specs.declared.types.Value.{Value}
 use Rattle.py_value.specs.declared.types.Value.TheVariants as V
 use Rattle.py_value.specs.declared.op_fault.OpFault.{OpFault}
@@ -11,8 +11,8 @@ in_range (pos n) = nat_lt n (2 ^ 127)
 in_range (negsuc n) = nat_lt n (2 ^ 127)
 
 -- a number in the range, and a fault outside
-abbrev pub ranged : ℤ → Result Value OpFault
-ranged z = cond (in_range z) (Ok (V.Int z)) (Err IntRange)
+abbrev pub int_or_fault : ℤ → Result Value OpFault
+int_or_fault z = if in_range z then Ok (V.Int z) else Err IntRange
 
 -- the number that a truth value counts as (Python library reference, "Boolean Type")
 abbrev pub bit : Bool → ℤ
@@ -34,7 +34,7 @@ joining_fault v w = WrongType
 
 -- the sum of two numbers, and a fault where one of them is none
 abbrev pub sum_by : Option ℤ → Option ℤ → OpFault → Result Value OpFault
-sum_by (Some x) (Some y) fault = ranged (x +ℤ y)
+sum_by (Some x) (Some y) fault = int_or_fault (x +ℤ y)
 sum_by m n fault = Err fault
 
 -- `+` (Python language reference, section 6.7)

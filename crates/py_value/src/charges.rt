@@ -1,6 +1,6 @@
 // What operations are charged for their operands.
 ghost use Rattle.std.specs.Prelude.{◌≡◌};
-ghost use Rattle.py_value.specs.Size.{capped, charge_step, charge_of, size_of};
+ghost use Rattle.py_value.specs.Size.{cap, charge_step, charge_of, size_of};
 ghost use Rattle.py_value.specs.View.{data_of};
 
 use crate::sizes::size;
@@ -21,7 +21,7 @@ pub fn operand_charge(operands: &[Value]) -> u64
 
 // The steps for one operand.
 fn charge_for(operand: &Value) -> u64
-    ensures { result ≡ capped (charge_step operand.now (size_of (data_of operand.now))) }
+    ensures { result ≡ cap (charge_step operand.now (size_of (data_of operand.now))) }
 {
     match operand {
         Value::None | Value::Bool(_) | Value::Int(_) | Value::Element(_) => 0,

@@ -18,13 +18,13 @@ pub struct NameMap<V> {
 impl<V> Model for NameMap<V> {
     ghost use Rattle.std.specs.Coded.{coded_list, coded_ℕ, coded×};
     ghost use Rattle.py_value.specs.Maps.{Map};
-    ghost use Rattle.py_value.specs.Named.{named};
+    ghost use Rattle.py_value.specs.Named.{name_entries};
 
     ghost Value = { Map V };
 
     ghost coded = { coded_list (coded× (coded_list coded_ℕ) V.code) };
 
-    ghost view = { λ m. named m.inner.entries };
+    ghost view = { λ m. name_entries m.inner.entries };
 }
 
 impl<V> NameMap<V> {
@@ -61,24 +61,5 @@ impl<V: Drop> NameMap<V> {
         ensures left { self.new ≡ where_name (λ x. not (bytes_eq x name.now)) self.old }
     {
         self.inner.remove(name)
-    }
-}
-
-#[cfg(test)]
-mod tests {
-    use super::*;
-    use std::test::Fail;
-
-    #[test]
-    fn has_what_was_put(rt: HostRuntime) -> Result<(), Fail> {
-        let alloc = rt.alloc();
-        let mut map: NameMap<u8> = NameMap::new(alloc);
-        map.put(Text::of(String::from_str(alloc, "b")?), 1)?;
-        map.put(Text::of(String::from_str(alloc, "a")?), 2)?;
-        map.put(Text::of(String::from_str(alloc, "b")?), 3)?;
-        assert!(rt; matches!(map.get("a"), Some(2)));
-        assert_eq!(rt; map.remove("b"), Some(3));
-        assert!(rt; map.get("b").is_none());
-        Ok(())
     }
 }

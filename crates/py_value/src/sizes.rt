@@ -1,7 +1,7 @@
 // How large a value is.
 ghost use Rattle.std.specs.Prelude.{◌≡◌, ◌+◌, ◌/◌, length};
 ghost use Rattle.py_value.specs.View.{data_of, all_of, pairs_of};
-ghost use Rattle.py_value.specs.Size.{capped, size_of, size_of_all, size_of_pairs};
+ghost use Rattle.py_value.specs.Size.{cap, size_of, size_of_all, size_of_pairs};
 
 use crate::texts::Text;
 use crate::types::Value;
@@ -11,7 +11,7 @@ use crate::types::Value;
 #[cycle(size)]
 #[tactic(auto, using(crate::proofs::Levels::levels, crate::proofs::SizeLevels::sizes))]
 pub fn size(v: &Value) -> u64
-    ensures { result ≡ capped (size_of (data_of v.now)) }
+    ensures { result ≡ cap (size_of (data_of v.now)) }
 {
     match v {
         Value::None => 1,
@@ -27,7 +27,7 @@ pub fn size(v: &Value) -> u64
 }
 
 fn size_of_text(t: &Text) -> u64
-    ensures { result ≡ capped (1 + length t.now / 16) }
+    ensures { result ≡ cap (1 + length t.now / 16) }
 {
     1 + t.items().len() as u64 / 16
 }
@@ -35,7 +35,7 @@ fn size_of_text(t: &Text) -> u64
 #[cycle(size)]
 #[tactic(auto, using(crate::proofs::Levels::levels, crate::proofs::SizeLevels::sizes))]
 fn size_of_all(items: &[Value]) -> u64
-    ensures { result ≡ capped (size_of_all (all_of items.now)) }
+    ensures { result ≡ cap (size_of_all (all_of items.now)) }
 {
     let mut total: u64 = 0;
     for item in items {
@@ -47,7 +47,7 @@ fn size_of_all(items: &[Value]) -> u64
 #[cycle(size)]
 #[tactic(auto, using(crate::proofs::Levels::levels, crate::proofs::SizeLevels::sizes))]
 fn size_of_pairs(pairs: &[(Value, Value)]) -> u64
-    ensures { result ≡ capped (size_of_pairs (pairs_of pairs.now)) }
+    ensures { result ≡ cap (size_of_pairs (pairs_of pairs.now)) }
 {
     let mut total: u64 = 0;
     for pair in pairs {

@@ -2,7 +2,7 @@
 use Rattle.std.proofs.Common.{◌≡◌, ℕ, ◌+◌, ◌-◌, ◌<◌, ◌≤◌, Bool, true, false, if◌then◌else◌, nat_le, List, [], ◌∷◌, ◌++◌, refl, ap, ◌∙◌, sym, arith, append_assoc, append-nil, leb-true, leb-false}
 use Rattle.run_meaning.specs.Trace.{Trace, Gives, Faults, Charges, Prints}
 use Rattle.run_meaning.specs.Spending.{Spending, Got, Failed, Spent, pay, show, spend, then_spend}
-use Rattle.run_meaning.specs.Runs.{Mark, Charge, Printed, End, Done, Fault, Cut, IsRun, done, fault, cut, charge, print, Alike, same, first_cut, second_cut, cost, printed, Picks, HasOneRun}
+use Rattle.run_meaning.specs.Runs.{Mark, Charge, Printed, End, Done, Fault, Cut, IsRun, done, fault, cut, charge, print, Alike, same, first_cut, second_cut, cost, printed_lines, Picks, HasOneRun}
 
 -- ---- two runs
 
@@ -36,11 +36,11 @@ whole (Prints x t) = let w = whole t in (Printed x ∷ w.0, w.1, print w.2, w.3)
 
 -- what a budget picks of a trace, with lines printed before it
 abbrev From : {A : Type 0} → List (List ℕ) → Trace A → ℕ → Spending A → Type 0
-From c t budget (Got a left console) = (ms : List Mark) × IsRun t ms (Done a) × (cost ms + left ≡ budget) × (console ≡ c ++ printed ms)
+From c t budget (Got a left console) = (ms : List Mark) × IsRun t ms (Done a) × (cost ms + left ≡ budget) × (console ≡ c ++ printed_lines ms)
 From c t budget (Failed k line left console) =
-    (ms : List Mark) × IsRun t ms (Fault k line) × (cost ms + left ≡ budget) × (console ≡ c ++ printed ms)
+    (ms : List Mark) × IsRun t ms (Fault k line) × (cost ms + left ≡ budget) × (console ≡ c ++ printed_lines ms)
 From c t budget (Spent line left console) =
-    (ms : List Mark) × (n : ℕ) × IsRun t (ms ++ Charge n line ∷ []) Cut × (cost ms + left ≡ budget) × (left < n) × (console ≡ c ++ printed ms)
+    (ms : List Mark) × (n : ℕ) × IsRun t (ms ++ Charge n line ∷ []) Cut × (cost ms + left ≡ budget) × (left < n) × (console ≡ c ++ printed_lines ms)
 
 after_charge : {A : Type 0} (n line budget : ℕ) (c : List (List ℕ)) (t : Trace A) (s : Spending A) → n ≤ budget
     → From c t (budget - n) s → From c (Charges n line t) budget s
@@ -50,9 +50,9 @@ after_charge n line budget c t (Spent l left console) le h = (Charge n line ∷ 
 
 after_print : {A : Type 0} (x : List ℕ) (budget : ℕ) (c : List (List ℕ)) (t : Trace A) (s : Spending A)
     → From (c ++ x ∷ []) t budget s → From c (Prints x t) budget s
-after_print x budget c t (Got a left console) h = (Printed x ∷ h.0, print h.1, h.2, h.3 ∙ append_assoc c (x ∷ []) (printed h.0))
-after_print x budget c t (Failed k l left console) h = (Printed x ∷ h.0, print h.1, h.2, h.3 ∙ append_assoc c (x ∷ []) (printed h.0))
-after_print x budget c t (Spent l left console) h = (Printed x ∷ h.0, h.1, print h.2, h.3, h.4, h.5 ∙ append_assoc c (x ∷ []) (printed h.0))
+after_print x budget c t (Got a left console) h = (Printed x ∷ h.0, print h.1, h.2, h.3 ∙ append_assoc c (x ∷ []) (printed_lines h.0))
+after_print x budget c t (Failed k l left console) h = (Printed x ∷ h.0, print h.1, h.2, h.3 ∙ append_assoc c (x ∷ []) (printed_lines h.0))
+after_print x budget c t (Spent l left console) h = (Printed x ∷ h.0, h.1, print h.2, h.3, h.4, h.5 ∙ append_assoc c (x ∷ []) (printed_lines h.0))
 
 fits_or_not : {A : Type 0} (n line budget : ℕ) (c : List (List ℕ)) (t : Trace A) (b : Bool) → nat_le n budget ≡ b
     → From c t (budget - n) (spend t (budget - n) c)

@@ -1,5 +1,5 @@
 -- What trees mean: the trace of each form.
-use Rattle.std.specs.Prelude.{ℕ, cond, List, [], ◌∷◌, ◌++◌, codes, map, pos, Option, Some, None, Result, Ok, Err}
+use Rattle.std.specs.Prelude.{ℕ, if◌then◌else◌, List, [], ◌∷◌, ◌++◌, codes, map, pos, Option, Some, None, Result, Ok, Err}
 use Rattle.std.specs.Str.{bytes_eq}
 use Rattle.py_tree.specs.Elements.{ui_kind}
 use Rattle.py_tree.specs.Names.{Name, is_among}
@@ -52,7 +52,7 @@ result_at line (Err fault) = Faults (kind_of fault) line
 -- The present value of an element, which can't be had in the cell that creates it (marimo's documentation, "Interactive
 -- elements"). Other values have no attribute.
 abbrev pub present_of : Scene → ℕ → Value → Trace Value
-present_of scene line (V.Element e) = cond (is_among e.name scene.own) (Faults RuntimeError line) (Gives (value_in e.present))
+present_of scene line (V.Element e) = if is_among e.name scene.own then Faults RuntimeError line else Gives (value_in e.present)
 present_of scene line v = Faults AttributeError line
 
 -- An expression on a line. Each node is charged 1 when it begins; the left side of a sum runs before the right side (Python
@@ -63,7 +63,7 @@ value_of scene env line (name x) = Charges 1 line (read line (look_up x env))
 value_of scene env line (sum a b) =
     Charges 1 line (value_of scene env line a >>= λ x. value_of scene env line b >>= λ y. result_at line (sum_of x y))
 value_of scene env line (attribute base x) =
-    Charges 1 line (cond (bytes_eq x (codes "value")) (value_of scene env line base >>= present_of scene line) (Faults Subset line))
+    Charges 1 line (if bytes_eq x (codes "value") then value_of scene env line base >>= present_of scene line else Faults Subset line)
 value_of scene env line (call callee args) = Charges 1 line (Faults Subset line)
 
 -- these values, and then those of expressions one after the other

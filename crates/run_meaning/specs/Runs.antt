@@ -40,19 +40,19 @@ cost (Charge n line ∷ ms) = n + cost ms
 cost (Printed x ∷ ms) = cost ms
 
 -- the printed lines
-abbrev pub printed : List Mark → List (List ℕ)
-printed [] = []
-printed (Charge n line ∷ ms) = printed ms
-printed (Printed x ∷ ms) = x ∷ printed ms
+abbrev pub printed_lines : List Mark → List (List ℕ)
+printed_lines [] = []
+printed_lines (Charge n line ∷ ms) = printed_lines ms
+printed_lines (Printed x ∷ ms) = x ∷ printed_lines ms
 
 -- What a budget makes of the runs: the one that isn't cut, where its charges fit in it; else the cut one whose last mark is the
 -- first charge with which the sum passes the budget.
 abbrev pub Picks : {A : Type 0} → (List Mark → End A → Type 0) → ℕ → Spending A → Type 0
-Picks runs budget (Got a left console) = (ms : List Mark) × runs ms (Done a) × (cost ms + left ≡ budget) × (console ≡ printed ms)
+Picks runs budget (Got a left console) = (ms : List Mark) × runs ms (Done a) × (cost ms + left ≡ budget) × (console ≡ printed_lines ms)
 Picks runs budget (Failed k line left console) =
-    (ms : List Mark) × runs ms (Fault k line) × (cost ms + left ≡ budget) × (console ≡ printed ms)
+    (ms : List Mark) × runs ms (Fault k line) × (cost ms + left ≡ budget) × (console ≡ printed_lines ms)
 Picks runs budget (Spent line left console) =
-    (ms : List Mark) × (n : ℕ) × runs (ms ++ Charge n line ∷ []) Cut × (cost ms + left ≡ budget) × (left < n) × (console ≡ printed ms)
+    (ms : List Mark) × (n : ℕ) × runs (ms ++ Charge n line ∷ []) Cut × (cost ms + left ≡ budget) × (left < n) × (console ≡ printed_lines ms)
 
 -- One run and its cut beginnings: any two runs are alike, there is a run that isn't cut, and each budget picks what `spend` says.
 pub record HasOneRun {A : Type 0} (t : Trace A) : Type 0 where

@@ -9,7 +9,7 @@ use Rattle.py_value.specs.declared.types.Value.{Value}
 use Rattle.py_value.specs.View.{data_of, all_of}
 use Rattle.py_value.specs.Dicts.{with_pair}
 use Rattle.py_value.specs.Maps.{look_up}
-use Rattle.py_value.specs.Elements.{Named, Params, Parameter, are_words_of, argument, filled, given}
+use Rattle.py_value.specs.Elements.{Named, Params, Parameter, are_words_of, argument, params_after, params_of_call}
 use Rattle.py_value.proofs.Equals.{all_long}
 use Rattle.ui_elements.specs.Calls.{arguments_of, parameter_of, parameters_of, words_of}
 use Rattle.ui_elements.specs.declared.args.Args.{Args}
@@ -47,18 +47,18 @@ drop_one : (vs : List Value) (i : ℕ) → drop 1 (all_of (drop i vs)) ≡ all_o
 drop_one vs i = rw add-one (drop_next vs i)
 
 pub filled_more : (ps : List Row) (vs : List Value) (i : ℕ) (d : Row) (words : Named) (earlier : Params) (value : Data) → i < length ps → argument (parameter_of (get_or ps i d)) (all_of (drop i vs)) words earlier ≡ Some value →
-    filled (parameters_of (drop i ps)) (all_of (drop i vs)) words earlier ≡ filled (parameters_of (drop (i + 1) ps)) (all_of (drop (i + 1) vs)) words (with_pair (D.Text (get_or ps i d).name.now) value earlier)
+    params_after (parameters_of (drop i ps)) (all_of (drop i vs)) words earlier ≡ params_after (parameters_of (drop (i + 1) ps)) (all_of (drop (i + 1) vs)) words (with_pair (D.Text (get_or ps i d).name.now) value earlier)
 filled_more ps vs i d words earlier value h e = rw (drop_more ps i d h, e, drop_one vs i) refl
 
 pub filled_none : (ps : List Row) (vs : List Value) (i : ℕ) (d : Row) (words : Named) (earlier : Params) → i < length ps → argument (parameter_of (get_or ps i d)) (all_of (drop i vs)) words earlier ≡ None →
-    filled (parameters_of (drop i ps)) (all_of (drop i vs)) words earlier ≡ None
+    params_after (parameters_of (drop i ps)) (all_of (drop i vs)) words earlier ≡ None
 filled_none ps vs i d words earlier h e = rw (drop_more ps i d h, e) refl
 
 pub filled_end : (ps : List Row) (vs : List Value) (i : ℕ) (words : Named) (earlier : Params) → i ≡ length ps → length vs ≤ i →
-    filled (parameters_of (drop i ps)) (all_of (drop i vs)) words earlier ≡ Some earlier
+    params_after (parameters_of (drop i ps)) (all_of (drop i vs)) words earlier ≡ Some earlier
 filled_end ps vs i words earlier h low = rw (none_left vs i low, h, drop-length ps) refl
 
-pub too_many : (ps : List Row) (vs : List Value) (words : Named) (earlier : Params) → length ps < length vs → filled (parameters_of ps) (all_of vs) words earlier ≡ None
+pub too_many : (ps : List Row) (vs : List Value) (words : Named) (earlier : Params) → length ps < length vs → params_after (parameters_of ps) (all_of vs) words earlier ≡ None
 too_many [] [] words earlier h = absurd (omega arith)
 too_many [] (v ∷ vs) words earlier h = refl
 too_many (p ∷ ps) [] words earlier h = absurd (omega arith)
@@ -66,12 +66,12 @@ too_many (p ∷ ps) (v ∷ vs) words earlier h = too_many ps vs words _ (omega a
 
 -- the arguments by name don't fit
 pub given_none : (ps : List Row) (vs : List Value) (ws : List Word) (args : Args) → all_of vs ≡ args.places → ws ≡ args.words → are_words_of (parameters_of (take (length ps - length vs) (drop (length vs) ps))) (words_of ws) ≡ false →
-    given (parameters_of ps) (arguments_of args) ≡ None
+    params_of_call (parameters_of ps) (arguments_of args) ≡ None
 given_none ps vs ws args e f h = rw (← e, ← f, all_long vs, drop-map parameter_of (length vs) ps, ← take_rest ps (length vs), h) refl
 
 -- the arguments by name fit
 pub given_filled : (ps : List Row) (vs : List Value) (ws : List Word) (args : Args) → all_of vs ≡ args.places → ws ≡ args.words → are_words_of (parameters_of (take (length ps - length vs) (drop (length vs) ps))) (words_of ws) ≡ true →
-    given (parameters_of ps) (arguments_of args) ≡ filled (parameters_of ps) (all_of vs) (words_of ws) []
+    params_of_call (parameters_of ps) (arguments_of args) ≡ params_after (parameters_of ps) (all_of vs) (words_of ws) []
 given_filled ps vs ws args e f h = rw (← e, ← f, all_long vs, drop-map parameter_of (length vs) ps, ← take_rest ps (length vs), h) refl
 
 -- what the loop over parameters uses

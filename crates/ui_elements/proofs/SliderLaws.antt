@@ -12,7 +12,7 @@ use Rattle.py_value.specs.View.{data_of, value_of}
 use Rattle.py_value.specs.Eq.{eq_of}
 use Rattle.py_value.specs.ElementData.{ElementData}
 use Rattle.py_value.specs.Dicts.{with_pair}
-use Rattle.py_value.specs.Elements.{Named, Params, Parameter, Arguments, Range, slider_parameters, are_words_of, argument, filled, given, number_in, range_at, is_in_range, slider, slider_by, slider_of, admits_number, admitted_by, admitted, made, param, number_at, has_text}
+use Rattle.py_value.specs.Elements.{Named, Params, Parameter, Arguments, Range, slider_parameters, are_words_of, argument, params_after, params_of_call, number_in, range_at, is_in_range, slider, slider_by, slider_of, admits_number, admitted_by, admitted, made, param, number_at, has_text}
 use Rattle.py_value.proofs.Levels.{data_of-value_of}
 use Rattle.ui_elements.specs.Samples.{slider_names}
 use Rattle.py_value.proofs.Computes.{same_text, a_number}
@@ -47,12 +47,12 @@ begun_by name params (Some r) (Some n) false e at h = cc
 begun_by name params (Some r) None label e at h = cc
 begun_by name params None n label e at h = cc
 
-begun_of : (name : List ℕ) (given : Option Params) (e : ElementData) → slider_of name given ≡ Ok e → admitted e e.initial ≡ Some e.initial
+begun_of : (name : List ℕ) (found : Option Params) (e : ElementData) → slider_of name found ≡ Ok e → admitted e e.initial ≡ Some e.initial
 begun_of name None e h = cc
 begun_of name (Some params) e h = begun_by name params (range_at params) (number_at (codes "value") params) (has_text (param (codes "label") params)) e refl h
 
 pub begun : (name : List ℕ) (args : Arguments) (e : ElementData) → made kind.Slider name args ≡ Ok e → admitted e e.initial ≡ Some e.initial
-begun name args e h = begun_of name (given slider_parameters args) e h
+begun name args e h = begun_of name (params_of_call slider_parameters args) e h
 
 -- the keys of pairs
 abbrev keys_of : Params → List Data
@@ -76,17 +76,17 @@ abbrev with_names : List Parameter → List Data → List Data
 with_names [] ks = ks
 with_names (p ∷ ps) ks = with_names ps (with_key (D.Text p.name) ks)
 
-keys_filled : (ps : List Parameter) (places : List Data) (words : Named) (earlier params : Params) → filled ps places words earlier ≡ Some params → keys_of params ≡ with_names ps (keys_of earlier)
+keys_filled : (ps : List Parameter) (places : List Data) (words : Named) (earlier params : Params) → params_after ps places words earlier ≡ Some params → keys_of params ≡ with_names ps (keys_of earlier)
 keys_filled [] [] words earlier params h = let is : params ≡ earlier = cc in ap keys_of is
 keys_filled [] (d ∷ ds) words earlier params h = cc
 keys_filled (p ∷ ps) places words earlier params h =
-    elim (argument p places words earlier) as (λ o. option_and_then (λ d. filled ps (drop 1 places) words (with_pair (D.Text p.name) d earlier)) o ≡ Some params → keys_of params ≡ with_names ps (with_key (D.Text p.name) (keys_of earlier))) [
+    elim (argument p places words earlier) as (λ o. option_and_then (λ d. params_after ps (drop 1 places) words (with_pair (D.Text p.name) d earlier)) o ≡ Some params → keys_of params ≡ with_names ps (with_key (D.Text p.name) (keys_of earlier))) [
       | None ↦ λ none. cc
       | Some d ↦ λ some. keys_filled ps (drop 1 places) words (with_pair (D.Text p.name) d earlier) params some ∙ ap (with_names ps) (keys_set (D.Text p.name) d earlier)
     ]
     h
 
-keys_given : (b : Bool) (places : List Data) (words : Named) (params : Params) → cond b (filled slider_parameters places words []) None ≡ Some params → keys_of params ≡ slider_names
+keys_given : (b : Bool) (places : List Data) (words : Named) (params : Params) → cond b (params_after slider_parameters places words []) None ≡ Some params → keys_of params ≡ slider_names
 keys_given true places words params h = keys_filled slider_parameters places words [] params h ∙ simp same_text
 keys_given false places words params h = cc
 
@@ -100,10 +100,10 @@ ordered_by name params (Some r) (Some n) false e keys h = cc
 ordered_by name params (Some r) None label e keys h = cc
 ordered_by name params None n label e keys h = cc
 
-ordered_of : (name : List ℕ) (given : Option Params) (e : ElementData) → ((params : Params) → given ≡ Some params → keys_of params ≡ slider_names) → slider_of name given ≡ Ok e → keys_of e.params ≡ slider_names
+ordered_of : (name : List ℕ) (found : Option Params) (e : ElementData) → ((params : Params) → found ≡ Some params → keys_of params ≡ slider_names) → slider_of name found ≡ Ok e → keys_of e.params ≡ slider_names
 ordered_of name None e keys h = cc
 ordered_of name (Some params) e keys h = ordered_by name params (range_at params) (number_at (codes "value") params) (has_text (param (codes "label") params)) e (keys params refl) h
 
 pub ordered : (name : List ℕ) (args : Arguments) (e : ElementData) → made kind.Slider name args ≡ Ok e → keys_of e.params ≡ slider_names
 ordered name args e h =
-    ordered_of name (given slider_parameters args) e (λ params. keys_given (are_words_of (drop (length args.places) slider_parameters) args.words) args.places args.words params) h
+    ordered_of name (params_of_call slider_parameters args) e (λ params. keys_given (are_words_of (drop (length args.places) slider_parameters) args.words) args.places args.words params) h

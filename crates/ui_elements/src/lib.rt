@@ -1,22 +1,22 @@
 //! Elements of `marimo.ui`: what their calls make, and what values they admit.
 #![tactic(auto)]
 
-mod admitting;
+mod admission;
 mod args;
-mod filling;
+mod call_params;
+mod construction;
 pub mod laws;
-mod making;
 mod parameters;
 mod params;
 mod present;
 mod ranges;
-mod showing;
 #[cfg(test)]
 mod tests;
+mod text;
 mod words;
 
-pub use admitting::{AdmitFault, admit};
+pub use admission::{AdmitFault, admit};
 pub use args::{Args, Word, Words};
-pub use making::make;
+pub use construction::make;
 pub use present::Present;
-pub use showing::shown;
+pub use text::shown;

@@ -24,27 +24,6 @@ pub fn param<'a>(params: &'a Pairs, name: &str) -> Option<&'a Value>
     None
 }
 
-// The key is this name.
-#[tactic(auto, using(crate::proofs::Keys::keys))]
-fn is_key(name: &str, key: &Value) -> bool
-    ensures { result ≡ eq_of (D.Text name.now) (data_of key.now) }
-{
-    match key {
-        Value::Text(text) => name == text.items(),
-        _ => false,
-    }
-}
-
-/// The number that a value is, which a truth value isn't here.
-pub fn number_in(value: &Value) -> Option<i128>
-    ensures { result ≡ number_in value.now }
-{
-    match value {
-        Value::Int(n) => Some(*n),
-        _ => None,
-    }
-}
-
 /// The number that the parameter of this name is.
 #[tactic(auto, using(crate::proofs::Keys::seen))]
 pub fn number_at(params: &Pairs, name: &str) -> Option<i128>
@@ -56,10 +35,14 @@ pub fn number_at(params: &Pairs, name: &str) -> Option<i128>
     }
 }
 
-fn is_text(value: &Value) -> bool
-    ensures { result ≡ is_text value.now }
+/// The number that a value is, which a truth value isn't here.
+pub fn number_in(value: &Value) -> Option<i128>
+    ensures { result ≡ number_in value.now }
 {
-    matches!(value, Value::Text(_))
+    match value {
+        Value::Int(n) => Some(*n),
+        _ => None,
+    }
 }
 
 /// The parameter of this name is a text.
@@ -79,6 +62,23 @@ pub fn set_param(alloc: Global, params: &mut Pairs, name: &str, value: Value) ->
     ensures ok { OnOk result (params.new ≡ with_pair (D.Text name.now) (data_of value) params.old) }
     ensures fault { IfErr result (λ f. f ≡ OpFault.Memory) }
 {
-    let name = Text::of(String::from_str(alloc, name)?);
+    let name = Text::copied(alloc, name)?;
     params.put(alloc, Value::Text(name), value)
+}
+
+// The key is this name.
+#[tactic(auto, using(crate::proofs::Keys::keys))]
+fn is_key(name: &str, key: &Value) -> bool
+    ensures { result ≡ eq_of (D.Text name.now) (data_of key.now) }
+{
+    match key {
+        Value::Text(text) => name == text.items(),
+        _ => false,
+    }
+}
+
+fn is_text(value: &Value) -> bool
+    ensures { result ≡ is_text value.now }
+{
+    matches!(value, Value::Text(_))
 }

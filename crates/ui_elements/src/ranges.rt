@@ -9,28 +9,28 @@ use py_value::Pairs;
 
 /// Numbers from a first to a last one, and how far one is from the next.
 #[derive(Clone, Copy)]
-pub struct Steps {
+pub struct Range {
     pub start: i128,
     pub stop: i128,
     pub step: i128,
 }
 
 /// The range that parameters of an element give, where they are numbers.
-pub fn range_at(params: &Pairs) -> Option<Steps>
+pub fn range_at(params: &Pairs) -> Option<Range>
     ensures { option_map range_seen result ≡ range_at params.now }
 {
     let start = number_at(params, "start");
     let stop = number_at(params, "stop");
     let step = number_at(params, "step");
     match (start, stop, step) {
-        (Some(start), Some(stop), Some(step)) => Some(Steps { start, stop, step }),
+        (Some(start), Some(stop), Some(step)) => Some(Range { start, stop, step }),
         _ => None,
     }
 }
 
 /// The number is in the range, a whole number of steps of 1 or more from its start.
 #[tactic(auto, using(crate::proofs::Gaps::gaps))]
-pub fn is_in_range(range: Steps, n: i128) -> bool
+pub fn is_in_range(range: Range, n: i128) -> bool
     ensures { result ≡ is_in_range (range_seen range) n }
 {
     if range.step < 1 || n < range.start || range.stop < n {

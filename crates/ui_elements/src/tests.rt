@@ -24,7 +24,7 @@ use Given::{At, By};
 use Sample::{Int, True};
 
 fn text(alloc: Global, of: &str) -> Result<Text, Memory> {
-    Ok(Text::of(String::from_str(alloc, of)?))
+    Text::copied(alloc, of)
 }
 
 fn value(alloc: Global, sample: Sample) -> Result<Value, Memory> {

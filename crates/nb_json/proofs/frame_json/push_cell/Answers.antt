@@ -1,7 +1,7 @@
 -- One part after the other.
 use Rattle.std.proofs.Common.{◌≡◌, ◌∙◌, ap, ◌∷◌, ◌++◌, []}
 use Rattle.std.specs.Prelude.{codes, decimal, map}
-use Rattle.frame_meaning.specs.FrameText.{array, error_text, member, output_text, quoted, status_name}
+use Rattle.frame_meaning.specs.FrameText.{array, error_text, member, output_text, json_string, status_name}
 use Rattle.nb_json.proofs.Joined.{five_members, last_part, two_more}
 use Rattle.nb_json.proofs.frame_json.push_cell.Goals as goal
 
@@ -9,10 +9,10 @@ pub returns : goal.returns
 returns c =
     let frame = c.args.frame.now in
     let number = decimal frame.cell in
-    let lines = array (map quoted frame.console) in
+    let lines = array (map json_string frame.console) in
     let error = error_text frame.error in
     let output = output_text frame.output in
-    let status = quoted (status_name frame.status) in
+    let status = json_string (status_name frame.status) in
     let old = c.args.out.now.items in
     let s1 = c.extend_from_slice.new.self.items in
     let s2 = c.push_number.new.out.items in
@@ -24,8 +24,8 @@ returns c =
     let s8 = c.push_output.new.out.items in
     let s9 = c.extend_from_slice-5.new.self.items in
     let s10 = c.push_quoted.new.out.items in
-    let e4 : s4 ≡ s3 ++ lines = c.in_ok-push_lines.ensures ∙ ap (λ z. s3 ++ array (map quoted z)) c.items.ensures in
-    let e10 : s10 ≡ s9 ++ status = c.in_ok-push_quoted.ensures ∙ ap (λ z. s9 ++ quoted z) c.status_text.ensures in
+    let e4 : s4 ≡ s3 ++ lines = c.in_ok-push_lines.ensures ∙ ap (λ z. s3 ++ array (map json_string z)) c.items.ensures in
+    let e10 : s10 ≡ s9 ++ status = c.in_ok-push_quoted.ensures ∙ ap (λ z. s9 ++ json_string z) c.status_text.ensures in
     let p1 = codes "{\"cell\":" in
     let p3 = codes ",\"console\":" in
     let p5 = codes ",\"error\":" in

@@ -2,14 +2,14 @@
 use Rattle.std.proofs.Common.{◌≡◌, ◌+◌, ◌*◌, take}
 use Rattle.py_value.specs.View.{data_of, all_of, pairs_of}
 use Rattle.py_value.specs.Depth.{depth_of, depth_of_all, depth_of_pairs}
-use Rattle.py_value.specs.Size.{capped, size_of_all, size_of_pairs}
+use Rattle.py_value.specs.Size.{cap, size_of_all, size_of_pairs}
 use Rattle.py_value.proofs.sizes.+size.Given as goal
 
 abbrev pub invariant-size_of_all-loop-item : goal.invariant-size_of_all-loop-item
-invariant-size_of_all-loop-item l = l.total ≡ capped (size_of_all (all_of (take l.item-index l.items)))
+invariant-size_of_all-loop-item l = l.total ≡ cap (size_of_all (all_of (take l.item-index l.items)))
 
 abbrev pub invariant-size_of_pairs-loop-pair : goal.invariant-size_of_pairs-loop-pair
-invariant-size_of_pairs-loop-pair l = l.total ≡ capped (size_of_pairs (pairs_of (take l.pair-index l.pairs)))
+invariant-size_of_pairs-loop-pair l = l.total ≡ cap (size_of_pairs (pairs_of (take l.pair-index l.pairs)))
 
 abbrev pub decreases-size : goal.decreases-size
 decreases-size l = 2 * depth_of (data_of l.v.now)
