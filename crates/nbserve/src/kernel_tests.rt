@@ -5,12 +5,12 @@ ghost use Rattle.py_tree.specs.View.{view_cells};
 
 use crate::loading::load;
 use crate::stop::Stop;
-use kernel::{Delivered, Kernel, Stepped, open};
-use script_run::set_line;
 use cell_graph::Notebook;
 use frames::CellFrame;
+use kernel::{Delivered, Kernel, Stepped, open};
 use py_eval::Steps;
 use py_value::{Memory, Value};
+use script_run::set_line;
 use std::alloc::{AllocError, Global};
 use std::marker::Brand;
 use std::sync::ledger::{Blank, Ledger};

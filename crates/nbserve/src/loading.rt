@@ -6,8 +6,8 @@ ghost use Rattle.py_tree.specs.View.{view_cells};
 
 use crate::stop::Stop;
 use cell_graph::{Notebook, notebook};
-use thin_form::thin;
 use std::alloc::Global;
+use thin_form::thin;
 
 /// The notebook of which these bytes are the file. They have the form, no name is defined in two cells, and no cell lies on a cycle.
 pub fn load(alloc: Global, bytes: &[u8]) -> Result<Notebook, Stop>

@@ -8,11 +8,11 @@ ghost use Rattle.program_meaning.specs.Program as program;
 ghost use Rattle.program_meaning.specs.Scripts as scripts;
 
 use crate::refusal::{Refusal, refusal_text};
-use script_run::ScriptFault;
 use cell_graph::GraphFault;
-use thin_form::ThinFault;
 use link_io::{Sink, write_all};
+use script_run::ScriptFault;
 use std::alloc::Global;
+use thin_form::ThinFault;
 
 // The program's statuses.
 /// All was written.
