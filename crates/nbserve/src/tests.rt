@@ -86,6 +86,10 @@ fn run<L: Ledger>(alloc: Global, case: Case<'_>, blank: Blank) -> Result<Answer,
     })
 }
 
+fn answered(alloc: Global, case: Case<'_>) -> Result<Answer, AllocError> {
+    run::<Brand>(alloc, case, Blank::new(1))
+}
+
 const ONCE: &[&str] = &["once", "nb.py"];
 
 const PLAY: &[&str] = &["script", "nb.py", "visit.txt"];
@@ -111,7 +115,7 @@ fn tells_faults(rt: HostRuntime) -> Result<(), Fail> {
             failing,
             room,
         };
-        let answer = run::<Brand>(rt.alloc(), case, Blank::new(1))?;
+        let answer = answered(rt.alloc(), case)?;
         assert_eq!(rt; answer.status, status);
         assert_eq!(rt; answer.written.as_slice(), wanted);
     }
