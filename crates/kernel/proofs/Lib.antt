@@ -15,5 +15,4 @@ pub mod SoloVisits
 pub mod Standings
 pub mod Steps
 pub mod Taken
-pub mod ThinCode
 pub mod Without

@@ -1,13 +1,13 @@
 // Calls of a kernel over a notebook with a slider. The texts that are wanted are written by hand.
-ghost use Rattle.std.specs.Prelude.{◌≡◌, ◌<◌, IfOk, IsTrue};
-ghost use Rattle.form_meaning.specs.Thin.{are_thin};
+ghost use Rattle.std.specs.Prelude.{◌≡◌, ◌<◌, IfOk};
+ghost use Rattle.visit_meaning.specs.Runnable.{Runnable};
 ghost use Rattle.py_tree.specs.View.{view_cells};
 
-use crate::loading::load;
-use crate::stop::Stop;
+use crate::loader::load;
+use crate::command_fault::CommandFault;
 use cell_graph::Notebook;
 use frames::CellFrame;
-use kernel::{Delivered, Kernel, Stepped, open};
+use kernel::{Delivered, Kernel, Stepped};
 use py_eval::Steps;
 use py_value::{Memory, Value};
 use script_run::set_line;
@@ -48,8 +48,8 @@ enum Call<'a> {
 
 use Call::{Deliver, Newest, Pending, Present, Step};
 
-fn slider(alloc: Global) -> Result<Notebook, Stop>
-    ensures { IfOk result (λ nb. IsTrue (are_thin (view_cells nb))) }
+fn slider(alloc: Global) -> Result<Notebook, CommandFault>
+    ensures { IfOk result (λ nb. Runnable (view_cells nb)) }
 {
     load(alloc, SLIDER)
 }
@@ -132,10 +132,10 @@ fn calls_lines<L: Ledger>(
     calls: &[Call<'_>],
     blank: Blank,
 ) -> Result<Vec<u8>, Memory>
-    requires thin { IsTrue (are_thin (view_cells notebook.now)) }
+    requires runnable { Runnable (view_cells notebook.now) }
     requires new { (blank.name ≡ L.name) × (blank.parts ≡ L.parts) × (0 < blank.parts) }
 {
-    let mut kernel = open(alloc, notebook, BUDGET)?;
+    let mut kernel = Kernel::open(alloc, notebook, BUDGET)?;
     let mut steps = Steps::<L>::new(blank);
     let mut lines = Vec::new(alloc);
     for call in calls {
@@ -146,7 +146,7 @@ fn calls_lines<L: Ledger>(
 
 // What each of these calls gives, one a line.
 fn lines_of(alloc: Global, notebook: &Notebook, calls: &[Call<'_>]) -> Result<Vec<u8>, Memory>
-    requires { IsTrue (are_thin (view_cells notebook.now)) }
+    requires { Runnable (view_cells notebook.now) }
 {
     calls_lines::<Brand>(alloc, notebook, calls, Blank::new(1))
 }

@@ -2,8 +2,8 @@
 ghost use Rattle.std.specs.Prelude.{◌≡◌, ◌∷◌, [], ◌++◌, OnOk};
 ghost use Rattle.frame_meaning.specs.FrameText.{frame_text};
 
-use nb_json::push_frame;
 use frames::Frame;
+use nb_json::push_frame;
 use py_value::Memory;
 use std::alloc::Global;
 

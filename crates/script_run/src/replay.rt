@@ -1,18 +1,18 @@
 // Visits that are played.
-ghost use Rattle.std.specs.Prelude.{◌≡◌, ◌+◌, ◌≤◌, ◌++◌, ◌∷◌, [], List, IfErr, IsTrue, OnErr, OnOk, map};
+ghost use Rattle.std.specs.Prelude.{◌≡◌, ◌+◌, ◌≤◌, ◌++◌, ◌∷◌, [], List, IfErr, OnErr, OnOk, map};
 ghost use Rattle.link_io.specs.Outside.{Rose, Took, TookPart};
 ghost use Rattle.script_run.specs.Cut.{IsCut};
 ghost use Rattle.visit_meaning.specs.Answer.{Before, Message, cost_of_parts, frames_in, parts_from, solo, work};
 ghost use Rattle.frame_meaning.specs.FrameText.{frame_text, labelled};
 ghost use Rattle.visit_meaning.specs.Messages.{AreMessages};
-ghost use Rattle.form_meaning.specs.Thin.{are_thin};
+ghost use Rattle.visit_meaning.specs.Runnable.{Runnable};
 ghost use Rattle.py_tree.specs.View.{view_cells};
 
 use crate::frame_line::set_line;
 use cell_graph::Notebook;
-use kernel::{Kernel, Stepped, open};
-use link_io::{Failed, Sink, write_all};
 use frames::Frame;
+use kernel::{Kernel, Stepped};
+use link_io::{Failed, Sink, write_all};
 use py_eval::Steps;
 use py_value::Memory;
 use std::alloc::Global;
@@ -81,18 +81,18 @@ fn drain<'n, O: Sink, L: Ledger>(
 ) -> Result<(), PlayFault>
     ensures written { OnOk result
         (Took (O.taken out.old) (O.taken out.new)
-        (labelled label.now (frames_in kernel.old.coming))) }
+        (labelled label.now (frames_in kernel.old.pending))) }
     ensures begun { OnErr result
         (TookPart (O.taken out.old) (O.taken out.new)
-        (labelled label.now (frames_in kernel.old.coming))) }
+        (labelled label.now (frames_in kernel.old.pending))) }
     ensures later { O.faults out.old ≤ O.faults out.new }
     ensures cut { IfErr result (λ fault. fault ≡ PlayFault.WriteFault
-        → IsCut label.now kernel.old.coming (O.taken out.old)
+        → IsCut label.now kernel.old.pending (O.taken out.old)
         (O.taken out.new) steps.old steps.new) }
     ensures failed { IfErr result
         (λ fault. fault ≡ PlayFault.WriteFault → Rose (O.faults out.old) (O.faults out.new)) }
-    ensures steps { OnOk result (steps.new ≡ steps.old + cost_of_parts kernel.old.coming) }
-    ensures over { OnOk result (kernel.new.coming ≡ []) }
+    ensures steps { OnOk result (steps.new ≡ steps.old + cost_of_parts kernel.old.pending) }
+    ensures over { OnOk result (kernel.new.pending ≡ []) }
     ensures state { OnOk result (kernel.new.state ≡ kernel.old.state) }
     ensures nb { OnOk result (kernel.new.nb ≡ kernel.old.nb) }
     ensures budget { OnOk result (kernel.new.budget ≡ kernel.old.budget) }
@@ -115,7 +115,7 @@ pub fn play<O: Sink, L: Ledger>(
     out: &mut O,
     steps: &mut Steps<L>,
 ) -> Result<(), PlayFault>
-    requires { IsTrue (are_thin (view_cells notebook.now)) }
+    requires { Runnable (view_cells notebook.now) }
 
     // These are the frames of a visitor alone who sends these messages.
     ensures written { OnOk result
@@ -143,7 +143,7 @@ pub fn play<O: Sink, L: Ledger>(
     ensures failed { IfErr result
         (λ fault. fault ≡ PlayFault.WriteFault → Rose (O.faults out.old) (O.faults out.new)) }
 {
-    let mut kernel = open(alloc, notebook, budget)?;
+    let mut kernel = Kernel::open(alloc, notebook, budget)?;
     let mut line = Vec::new(alloc);
     for message in messages {
         let _taken = kernel.deliver(alloc, message)?;

@@ -1,5 +1,5 @@
 -- The run of a cell depends on the bindings of the names that it reads, and on the present values of the elements that it creates.
-use Rattle.std.proofs.Common.{◌≡◌, ℕ, ◌-◌, Bool, true, false, cond, not, ◌||◌, if◌then◌else◌, nat_le, List, [], ◌∷◌, ◌++◌, Option, Some, None, Result, Ok, Err, refl, sym, ap, ◌∙◌, subst}
+use Rattle.std.proofs.Common.{◌≡◌, ℕ, ◌-◌, Bool, true, false, cond, not, if◌then◌else◌, nat_le, List, [], ◌∷◌, ◌++◌, Option, Some, None, Result, Ok, Err, refl, sym, ap, ◌∙◌, subst}
 use Rattle.std.specs.Prelude.{codes, option_and_then}
 use Rattle.std.specs.Str.{bytes_eq}
 use Rattle.std.proofs.lemmas.Option.{none-some, cond_some}
@@ -21,6 +21,7 @@ use Rattle.py_value.specs.declared.error_kind.ErrorKind.TheVariants.{Subset}
 use Rattle.run_meaning.specs.Trace.{Trace, Gives, Faults, Charges, Prints, ◌>>=◌}
 use Rattle.run_meaning.specs.Spending.{Spending, Got, Failed, Spent, then_spend, pay, show, spend, runs, cost_of}
 use Rattle.run_meaning.specs.Meaning.{Env, Scene, Flow, read, read_module, result_at, present_of, value_of, values_after, element_at, element_by, call_of, calls_for, right_of, bind, head_of, lines_of, block_of}
+use Rattle.visit_meaning.specs.Runnable.{SameBinding, same_bound, one_element}
 use Rattle.visit_meaning.specs.Whole.{shown, ran_frame, without_defs, env_after, Outcome, outcome_of}
 use Rattle.run_meaning.specs.declared.binding.Binding.{Binding}
 use Rattle.run_meaning.specs.declared.binding.Binding.TheVariants.{Plain, Module}
@@ -385,12 +386,6 @@ kept_alike None None e = record { kind = refl; name = refl; params = refl; initi
 kept_alike None (Some w) e = record { kind = refl; name = refl; params = refl; initial = refl }
 kept_alike (Some v) None e = record { kind = refl; name = refl; params = refl; initial = refl }
 kept_alike (Some v) (Some w) e = record { kind = refl; name = refl; params = refl; initial = refl }
-
--- what a name is bound to in two runs: the same, or one element, in each at the present value that is kept for the name
-pub data SameBinding (ui ui' : Map Value) (x : Name) : Option Binding → Option Binding → Type 0 where
-  same_bound : {o : Option Binding} → SameBinding ui ui' x o o
-  one_element : (e : ElementData)
-      → SameBinding ui ui' x (Some (Plain (V.Element (at_kept (look_up x ui) e)))) (Some (Plain (V.Element (at_kept (look_up x ui') e))))
 
 -- where the name has one present value, the two are the same
 pub one_binding : (ui ui' : Map Value) (x : Name) {o p : Option Binding} → look_up x ui ≡ look_up x ui' → SameBinding ui ui' x o p → o ≡ p

@@ -14,9 +14,10 @@ use Rattle.py_value.specs.declared.types.Value.{Value}
 use Rattle.frames.specs.declared.frame.CellFrame.{CellFrame}
 use Rattle.graph_meaning.specs.Graph.{names_at, defs_of, refs_of, edge, all_cells, is_in, parents, order, NoneDoubled, NoneCyclic}
 use Rattle.run_meaning.specs.Meaning.{Env}
+use Rattle.visit_meaning.specs.Runnable.{BindsDefined}
 use Rattle.visit_meaning.specs.Underway.{HasNoLocals, defined_in, ended, frame_at}
 use Rattle.visit_meaning.specs.Whole.{Outcome, Progress, outcome_of, ended_ok, is_ok, with_outcome, with_code, with_cell, with_cells, whole}
-use Rattle.visit_meaning.proofs.InOrder.{ComesInOrder, EachOnce, all_agree, comes_once, defines_edge, defs_settled, is_last, order_comes, ready_unlisted, refs_settled, some_at}
+use Rattle.visit_meaning.proofs.InOrder.{ComesInOrder, EachOnce, all_agree, comes_once, defined_nowhere, defines_edge, defs_settled, is_last, order_comes, ready_unlisted, refs_settled, some_at}
 use Rattle.graph_meaning.proofs.Orders.{free_is_listed, in_more_cases, parent_listed}
 use Rattle.visit_meaning.proofs.Outcomes.{outcome_cell, outcome_settles}
 
@@ -228,6 +229,11 @@ pub record RanSo (nb : List Cell) (budget : ℕ) (ui : Map Value) (cells : List 
   pub plain : HasNoLocals env
   pub sorted : IsSortedMap env
 
+-- so they bind only names that cells define
+pub ran_defined : {nb : List Cell} {budget : ℕ} {ui : Map Value} {cells : List ℕ} {q : Progress} {c : ℕ} {code : Cell}
+    → (r : RanSo nb budget ui cells q c code) → BindsDefined nb r.env
+ran_defined {nb = nb} r x none = r.only x (defined_nowhere nb r.before x none)
+
 module _ (nb : List Cell) (budget : ℕ) (ui : Map Value) (c : ℕ) (code : Cell) (e : slice_get nb c ≡ Some code) (once : NoneDoubled nb) where
   taken : (done ds : List ℕ) (p : Progress) → ComesInOrder nb done (c ∷ ds) → Adds nb done start p
       → RanSo nb budget ui (done ++ c ∷ ds) (with_cells nb budget ui ds (with_outcome p (next_outcome nb budget ui p c code))) c code
@@ -307,11 +313,28 @@ whole_costs nb budget ui = as_many nb (order nb) (whole nb budget ui) (whole_add
 pub whole_only : (nb : List Cell) (budget : ℕ) (ui : Map Value) (x : Name) → defined_in nb (order nb) x ≡ false → look_up x (whole nb budget ui).env ≡ None
 whole_only nb budget ui x h = (whole_adds nb budget ui).others x h
 
+pub whole_defined : (nb : List Cell) (budget : ℕ) (ui : Map Value) → BindsDefined nb (whole nb budget ui).env
+whole_defined nb budget ui x none = whole_only nb budget ui x (defined_nowhere nb (order nb) x none)
+
 pub whole_plain : (nb : List Cell) (budget : ℕ) (ui : Map Value) → HasNoLocals (whole nb budget ui).env
 whole_plain nb budget ui = (whole_adds nb budget ui).plain
 
 pub whole_sorted : (nb : List Cell) (budget : ℕ) (ui : Map Value) → IsSortedMap (whole nb budget ui).env
 whole_sorted nb budget ui = (whole_adds nb budget ui).sorted tt
+
+-- What holds of no bindings, and is kept by each cell, holds of the whole's.
+pub whole_keeps : (nb : List Cell) (budget : ℕ) (ui : Map Value) (P : Env → Type 0) → P []
+    → ((may_run : Bool) (c : ℕ) (code : Cell) (env : Env) → slice_get nb c ≡ Some code → P env → P (outcome_of budget ui may_run c env code).env)
+    → P (whole nb budget ui).env
+whole_keeps nb budget ui P none keeps = cells (order nb) start none
+  where
+    one : (p : Progress) (c : ℕ) (o : Option Cell) → slice_get nb c ≡ o → P p.env → P (with_code nb budget ui p c o).env
+    one p c None e h = h
+    one p c (Some code) e h = keeps (list_all (ended_ok p.frames) (parents nb c)) c code p.env e h
+
+    cells : (cs : List ℕ) (p : Progress) → P p.env → P (with_cells nb budget ui cs p).env
+    cells [] p h = h
+    cells (c ∷ cs) p h = cells cs (with_cell nb budget ui p c) (one p c (slice_get nb c) refl h)
 
 -- ---- two wholes
 

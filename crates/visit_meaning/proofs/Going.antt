@@ -1,5 +1,5 @@
 -- Cells that run one after the other towards a whole: what the next one does to where they stand.
-use Rattle.std.proofs.Common.{◌≡◌, ◌∙◌, refl, sym, ap, subst, ℕ, Bool, true, false, ◌==◌, List, [], ◌∷◌, Option, Some, slice_get, ⊎_elim}
+use Rattle.std.proofs.Common.{◌≡◌, ◌∙◌, refl, sym, ap, subst, ℕ, Bool, false, ◌==◌, List, [], ◌∷◌, Option, Some, slice_get, ⊎_elim}
 use Rattle.std.specs.List.{list_all}
 use Rattle.std.proofs.lemmas.Bool.{cases_Bool, or_from, both_ways, eqb-true}
 use Rattle.py_tree.specs.Scope.{defs}
@@ -9,21 +9,20 @@ use Rattle.py_value.specs.declared.types.Value.{Value}
 use Rattle.visit_meaning.specs.Answer.{results_of}
 use Rattle.graph_meaning.specs.Graph.{all_cells, edge, is_in, parents, order, NoneDoubled, NoneCyclic}
 use Rattle.run_meaning.specs.Meaning.{Env}
-use Rattle.form_meaning.specs.Thin.{are_thin, elements_of}
+use Rattle.visit_meaning.specs.Runnable.{Runnable, SameOutcome}
 use Rattle.visit_meaning.specs.Underway.{Going, ended, frame_at, outcome_now}
 use Rattle.visit_meaning.specs.Whole.{Outcome, Progress, outcome_of, ended_ok, whole}
 use Rattle.frames.specs.declared.frame.CellFrame.{CellFrame}
 use Rattle.frames.specs.declared.frame.Frame.TheVariants as frame
-use Rattle.visit_meaning.proofs.FixedPoint.{ended_newest, ran_so, whole_only}
+use Rattle.visit_meaning.proofs.FixedPoint.{ended_newest, ran_defined, ran_so, whole_defined, whole_only}
 use Rattle.visit_meaning.proofs.InOrder.{all_agree}
-use Rattle.visit_meaning.proofs.OneByOne.{Reaches, SameOutcome, like_referenced, order_first, reaches}
+use Rattle.visit_meaning.proofs.OneByOne.{Reaches, but_defined, like_referenced, order_first, reaches}
 use Rattle.graph_meaning.proofs.Orders.{free_is_listed, from_cell}
 use Rattle.visit_meaning.proofs.ResultsOf.{once_framed, one_result}
-use Rattle.visit_meaning.proofs.ThinCells.{thin_cell, thin_same}
 
 -- a notebook that runs
 pub record Runs (nb : List Cell) : Type 0 where
-  pub thin : are_thin nb ≡ true
+  pub runnable : Runnable nb
   pub once : NoneDoubled nb
   pub free : NoneCyclic nb
 
@@ -37,15 +36,14 @@ module _ (nb : List Cell) (budget : ℕ) (ui : Map Value) where
   next_reaches runs left env newest c code g e =
       let ok : ℕ → Bool = λ a. ended (newest a) in
       let r = ran_so nb budget ui c code e runs.once runs.free in
-      let t = thin_cell nb c code runs.thin e in
       let may : list_all ok (parents nb c) ≡ list_all (ended_ok goal.frames) (parents nb c) =
       all_agree (λ a. edge nb a c) ok (ended_ok goal.frames) (all_cells nb)
       (λ a on. ap ended (g.newest_is a (from_cell nb a c on) (g.first.0 a on)) ∙ ended_newest goal.frames a (once_framed nb budget ui)) in
-      let same = thin_same (elements_of nb) t.0 budget ui ui (list_all ok (parents nb c)) c env r.env code t.1
-      (like_referenced nb budget ui (order nb) left goal c code env e r g.first g.but) (λ x h. refl) in
+      let same = runs.runnable.by_references budget ui (list_all ok (parents nb c)) c code env r.env e
+      (but_defined nb (c ∷ left) env goal.env g.but (whole_defined nb budget ui)) (ran_defined r)
+      (like_referenced nb budget ui (order nb) left goal c code env e r g.first g.but) in
       reaches nb budget ui (list_all ok (parents nb c)) (order nb) left goal c code env e r g.but
-      (subst (λ b. SameOutcome (defs code) (outcome_now nb budget ui env newest c code) (outcome_of budget ui b c r.env code)) may
-      (record { frame = same.frame; cost = same.cost; defined = same.defined }))
+      (subst (λ b. SameOutcome (defs code) (outcome_now nb budget ui env newest c code) (outcome_of budget ui b c r.env code)) may same)
 
   -- so this is its result
   pub next_result : {left : List ℕ} {env : Env} {newest : ℕ → Option CellFrame} {c : ℕ} {code : Cell} → Runs nb → Going nb budget ui (c ∷ left) env newest

@@ -6,6 +6,7 @@ pub mod InBeing
 pub mod InOrder
 pub mod Kept
 pub mod LookUps
+pub mod Makes
 pub mod MessageTexts
 pub mod OneByOne
 pub mod Outcomes
@@ -14,4 +15,3 @@ pub mod RerunSuffices
 pub mod ResultsOf
 pub mod SettingValues
 pub mod Standing
-pub mod ThinCells

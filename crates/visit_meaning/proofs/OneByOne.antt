@@ -11,9 +11,10 @@ use Rattle.run_meaning.specs.declared.binding.Binding.{Binding}
 use Rattle.frames.specs.declared.frame.CellFrame.{CellFrame}
 use Rattle.graph_meaning.specs.Graph.{defs_of, refs_of, edge, is_in, order}
 use Rattle.run_meaning.specs.Meaning.{Env}
+use Rattle.visit_meaning.specs.Runnable.{BindsDefined, SameOutcome}
 use Rattle.visit_meaning.specs.Underway.{IsBut, ParentsFirst, defined_in, frame_at}
 use Rattle.visit_meaning.specs.Whole.{Outcome, Progress, outcome_of, ended_ok, is_ok, whole}
-use Rattle.visit_meaning.proofs.InOrder.{ComesInOrder, comes_once, defines_edge, is_in_filter, is_last, order_comes, some_at}
+use Rattle.visit_meaning.proofs.InOrder.{ComesInOrder, comes_once, defined_nowhere, defines_edge, is_in_filter, is_last, order_comes, some_at}
 use Rattle.visit_meaning.proofs.FixedPoint.{RanSo, cost_at, defs_are, outcome_in, references_agree, refs_are}
 use Rattle.graph_meaning.proofs.Orders.{parent_listed}
 use Rattle.visit_meaning.proofs.Outcomes.{outcome_settles}
@@ -51,6 +52,10 @@ order_first nb = comes_first nb [] (order nb) (order_comes nb)
 pub but_none : (nb : List Cell) (env goal : Env) → IsBut nb [] env goal → IsSortedMap goal → env ≡ goal
 but_none nb env goal but sorted = same_maps env goal but.sorted sorted (λ x. but.same x refl)
 
+-- they bind only names that cells define where the goal does
+pub but_defined : (nb : List Cell) (left : List ℕ) (env goal : Env) → IsBut nb left env goal → BindsDefined nb goal → BindsDefined nb env
+but_defined nb left env goal but within x none = but.same x (defined_nowhere nb left x none) ∙ within x none
+
 -- what the next cell references is as in the goal
 pub but_reads : (nb : List Cell) (c : ℕ) (left : List ℕ) (env goal : Env) (x : Name) → ParentsFirst nb (c ∷ left) → IsBut nb (c ∷ left) env goal
     → is_among x (refs_of nb c) ≡ true → look_up x env ≡ look_up x goal
@@ -85,12 +90,6 @@ pub like_referenced : (nb : List Cell) (budget : ℕ) (ui : Map Value) (cells le
     → (x : Name) → is_among x (refs code) ≡ true → look_up x env ≡ look_up x r.env
 like_referenced nb budget ui cells left q c code env e r first but x read =
     but_reads nb c left env q.env x first but (refs_are nb c code x e ∙ read) ∙ sym (r.referenced x read)
-
--- two outcomes have the same result and the same cost, and the same at these names
-pub record SameOutcome (names : List Name) (o p : Outcome) : Type 0 where
-  pub frame : o.frame ≡ p.frame
-  pub cost : o.cost ≡ p.cost
-  pub defined : (x : Name) → is_among x names ≡ true → look_up x o.env ≡ look_up x p.env
 
 -- A cell that has run has the result and the cost that it has in the whole, and the bindings after it are on their way.
 pub record Reaches (nb : List Cell) (q : Progress) (c : ℕ) (left : List ℕ) (o : Outcome) : Type 0 where

@@ -22,17 +22,17 @@ use Rattle.visit_meaning.specs.Answer.{State, Before, On, Message, Open, Set, Ot
 use Rattle.graph_meaning.specs.Graph.{elements_of, is_in}
 use Rattle.run_meaning.specs.Meaning.{Env}
 use Rattle.graph_meaning.specs.Reruns.{rerun}
+use Rattle.visit_meaning.specs.Runnable.{SameBinding, same_bound, one_element}
 use Rattle.visit_meaning.specs.Underway.{HasNoElements}
 use Rattle.visit_meaning.specs.Whole.{Progress, whole}
 use Rattle.run_meaning.specs.declared.binding.Binding.{Binding}
 use Rattle.run_meaning.specs.declared.binding.Binding.TheVariants.{Plain}
 use Rattle.visit_meaning.proofs.AtKept.{next_plain, none_kept}
-use Rattle.visit_meaning.proofs.Coincidence.{SameBinding, same_bound, one_element}
 use Rattle.visit_meaning.proofs.Going.{Runs}
 use Rattle.visit_meaning.proofs.InBeing.{creator}
 use Rattle.visit_meaning.proofs.InOrder.{definer_below}
 use Rattle.visit_meaning.proofs.LookUps.{among_left, among_right}
-use Rattle.visit_meaning.proofs.RerunSuffices.{AreTaken, elements_defined, unchanged}
+use Rattle.visit_meaning.proofs.RerunSuffices.{AreTaken, unchanged}
 use Rattle.visit_meaning.proofs.SettingValues.{SameButPresent, no_element, all_set, laid_at, same_element, set_there, sets_passed, value_alike}
 use Rattle.visit_meaning.proofs.SettingValues as setting
 use Rattle.py_value.proofs.Computes.{a_number}
@@ -125,7 +125,7 @@ module _ (nb : List Cell) (budget : ℕ) (ui sets : Map Value) (taken : AreTaken
       → is_among x (flat_map (elements_of nb) (rerun nb (names_of sets))) ≡ false → SameButPresent (element_in old.env x) (element_in new.env x)
   element_alike x e there off =
       let w = creator nb budget ui taken.runs taken.plain x e there in
-      let defined = elements_defined nb w.0 x taken.runs.thin w.1 in
+      let defined = taken.runs.runnable.created w.0 x w.1 in
       let apart : is_in w.0 (rerun nb (names_of sets)) ≡ false = false_from_ne_true _
       (λ on. both_ways _ off (among_each (elements_of nb) (rerun nb (names_of sets)) w.0 x on w.1)) in
       let u = unchanged nb budget ui sets taken w.0 (definer_below nb w.0 x defined) apart in

@@ -1,11 +1,9 @@
 -- Kept under changes is computed afresh: when values are set, the cells that don't run again have in the new whole what they had in the
 -- old one, and the others, one after the other, have from the kept bindings what they have in the new whole.
-use Rattle.std.proofs.Common.{◌≡◌, ◌∙◌, refl, sym, ap, subst, ℕ, ◌<◌, ◌≤◌, arith, true, false, cond, ◌==◌, List, [], ◌∷◌, length, Option, Some, None, slice_get, ⊎_elim}
+use Rattle.std.proofs.Common.{◌≡◌, ◌∙◌, refl, sym, ap, subst, ℕ, ◌<◌, ◌≤◌, arith, Bool, true, false, cond, ◌==◌, List, [], ◌∷◌, length, Option, Some, None, ⊎_elim}
 use Rattle.std.specs.List.{list_all}
-use Rattle.std.specs.Str.{bytes_eq}
 use Rattle.std.proofs.lemmas.Bool.{cases_Bool, cases_lt, false_from_ne_true, or_parts, both_ways}
-use Rattle.std.proofs.lemmas.Option.{cond_some, none-some}
-use Rattle.py_tree.specs.Elements.{elements}
+use Rattle.std.proofs.lemmas.Option.{none-some}
 use Rattle.py_tree.specs.Names.{Name, is_among}
 use Rattle.py_tree.specs.Scope.{defs, refs}
 use Rattle.py_tree.specs.Trees.{Cell}
@@ -17,26 +15,25 @@ use Rattle.py_value.specs.declared.types.Data.{Data}
 use Rattle.py_value.specs.declared.types.Value.{Value}
 use Rattle.py_value.specs.declared.types.Value.TheVariants as V
 use Rattle.py_value.proofs.Levels.{data_of-value_of}
-use Rattle.visit_meaning.specs.Answer.{named_so, names_of, next}
-use Rattle.graph_meaning.specs.Graph.{names_at, defs_of, refs_of, elements_of, edge, is_in, parents, order}
+use Rattle.visit_meaning.specs.Answer.{element_in, named_so, names_of, next}
+use Rattle.graph_meaning.specs.Graph.{defs_of, refs_of, elements_of, edge, is_in, parents, order}
 use Rattle.graph_meaning.specs.Reruns.{is_within, rerun}
-use Rattle.form_meaning.specs.Thin.{are_thin}
-use Rattle.form_meaning.specs.Thin as thin_form
+use Rattle.visit_meaning.specs.Runnable.{LikeOutcome, SameOutcome, SameBinding, same_bound, one_element}
 use Rattle.visit_meaning.specs.Underway.{Going, HasNoElements, HasNoLocals, defined_in, frame_at}
 use Rattle.visit_meaning.specs.Whole.{Outcome, Progress, outcome_of, ended_ok, whole}
 use Rattle.run_meaning.specs.declared.binding.Binding.{Binding}
 use Rattle.run_meaning.specs.declared.binding.Binding.TheVariants.{Plain}
 use Rattle.frames.specs.declared.frame.CellFrame.{CellFrame}
 use Rattle.visit_meaning.proofs.AtKept.{next_plain, whole_at_kept}
-use Rattle.visit_meaning.proofs.Coincidence.{SameBinding, same_bound, one_element, one_binding}
-use Rattle.visit_meaning.proofs.FixedPoint.{by_parents, cells_of, code_there, defs_are, may_run_alike, outcome_in, ran_so, whole_frames, whole_only, whole_plain, whole_sorted}
+use Rattle.visit_meaning.proofs.Coincidence.{one_binding}
+use Rattle.visit_meaning.proofs.FixedPoint.{by_parents, cells_of, code_there, defs_are, may_run_alike, outcome_in, ran_defined, ran_so, whole_frames, whole_only, whole_plain, whole_sorted}
 use Rattle.visit_meaning.proofs.Going.{Runs}
+use Rattle.visit_meaning.proofs.InBeing.{element_bound}
 use Rattle.visit_meaning.proofs.InOrder.{any_at, any_name, definer_below, one_definer, some_at}
 use Rattle.visit_meaning.proofs.OneByOne.{SameResult, cell_referenced, first_filter, order_first, related_defined, same_result}
 use Rattle.graph_meaning.proofs.Orders.{free_is_listed, places_below}
 use Rattle.graph_meaning.proofs.Reaching.{is_kept, near_next, near_reader, passes}
 use Rattle.visit_meaning.proofs.SettingValues.{AllSet, laid_at, laid_by, laid_is, laid_over, laid_passed, next_kept, set_there, sets_passed, sorted_laid}
-use Rattle.visit_meaning.proofs.ThinCells.{thin_but_present, thin_cell, thin_element}
 
 -- Values are set in a notebook that runs: no element is kept as a value, and each value that is set is admitted by its element.
 pub record AreTaken (nb : List Cell) (budget : ℕ) (ui sets : Map Value) : Type 0 where
@@ -45,10 +42,6 @@ pub record AreTaken (nb : List Cell) (budget : ℕ) (ui sets : Map Value) : Type
   pub all : AllSet (whole nb budget ui).env sets
 
 -- ---- elements
-
-pub element_bound : (x : Name) (o : Option Binding) (e : ElementData) → named_so x o ≡ Some e → o ≡ Some (Plain (V.Element e))
-element_bound x (Some (Plain (V.Element f))) e h = ap (λ f. Some (Plain (V.Element f))) (cond_some (bytes_eq f.name x) f e h).1
-element_bound x o e h = absurd (none-some e h)
 
 abbrev element_or : ElementData → Option Binding → ElementData
 element_or e (Some (Plain (V.Element f))) = f
@@ -63,23 +56,25 @@ kept_now d o e is = ap (λ k. at_kept k e) is ∙ ap (λ v. with_present v e) (d
 
 -- an element that two wholes have is in the second one at the present value that is set there
 laid_binding : (ui present : Map Value) (x : Name) (d : Data) (e : ElementData) {o p : Option Binding} → SameBinding ui present x o p
-    → look_up x present ≡ Some (value_of d) → ((f : ElementData) → p ≡ Some (Plain (V.Element f)) → at_kept (look_up x present) f ≡ f)
-    → o ≡ Some (Plain (V.Element e)) → p ≡ Some (Plain (V.Element (with_present d e)))
-laid_binding ui present x d e same_bound is kept bound =
-    bound ∙ ap (λ f. Some (Plain (V.Element f))) (sym (kept e bound) ∙ kept_now d (look_up x present) e is)
-laid_binding ui present x d e (one_element f) is kept bound =
+    → look_up x present ≡ Some (value_of d) → ((f : ElementData) → named_so x p ≡ Some f → at_kept (look_up x present) f ≡ f)
+    → named_so x o ≡ Some e → p ≡ Some (Plain (V.Element (with_present d e)))
+laid_binding ui present x d e (same_bound {o = o}) is kept there =
+    element_bound x o e there ∙ ap (λ f. Some (Plain (V.Element f))) (sym (kept e there) ∙ kept_now d (look_up x present) e is)
+laid_binding ui present x d e (one_element f) is kept there =
+    let bound = element_bound x (Some (Plain (V.Element (at_kept (look_up x ui) f)))) e there in
     ap (λ f. Some (Plain (V.Element f)))
     (kept_now d (look_up x present) f is ∙ present_over d (look_up x ui) f ∙ ap (with_present d) (ap (element_or e) bound))
 
--- the elements that a cell creates are among its definitions
-pub elements_defined : (nb : List Cell) (c : ℕ) (x : Name) → are_thin nb ≡ true → is_among x (elements_of nb c) ≡ true → is_among x (defs_of nb c) ≡ true
-elements_defined nb c x thin h = by (slice_get nb c) refl h
-  where
-    by : (o : Option Cell) → slice_get nb c ≡ o → is_among x (names_at elements o) ≡ true → is_among x (names_at defs (slice_get nb c)) ≡ true
-    by None e here = absurd (both_ways false refl here)
-    by (Some code) e here =
-        let t = thin_cell nb c code thin e in
-        defs_are nb c code x e ∙ thin_element (thin_form.elements_of nb) t.0 code x t.1 here
+-- ---- outcomes and frames
+
+-- an outcome that is the same as one that is like another
+same_then_like : {ui ui' : Map Value} {names : List Name} {o p q : Outcome} → SameOutcome names o p → LikeOutcome ui ui' names p q
+    → LikeOutcome ui ui' names o q
+same_then_like {ui = ui} {ui' = ui'} {q = q} same like = record {
+  frame = same.frame ∙ like.frame;
+  cost = same.cost ∙ like.cost;
+  defined = λ x h. subst (λ b. SameBinding ui ui' x b (look_up x q.env)) (sym (same.defined x h)) (like.defined x h);
+}
 
 -- no frame is that of a cell past the last one
 unframed : (frames : List CellFrame) (c : ℕ) → is_in c (cells_of frames) ≡ false → frame_at frames c ≡ None
@@ -131,7 +126,7 @@ module _ (nb : List Cell) (budget : ℕ) (ui sets : Map Value) (taken : AreTaken
       → is_among x (elements_of nb d) ≡ false
   no_element c x off defined d on = false_from_ne_true _
       (λ h.
-      let same : d ≡ c = one_definer nb d c x taken.runs.once (elements_defined nb d x taken.runs.thin h) defined in
+      let same : d ≡ c = one_definer nb d c x taken.runs.once (taken.runs.runnable.created d x h) defined in
       both_ways _ off (ap (λ a. is_in a again) (sym same) ∙ on))
 
   -- a name that they define keeps its present value where none is set for it
@@ -152,14 +147,16 @@ module _ (nb : List Cell) (budget : ℕ) (ui sets : Map Value) (taken : AreTaken
       let e = there.1 in
       let r = ran_so nb budget ui c code e taken.runs.once taken.runs.free in
       let s = ran_so nb budget present c code e taken.runs.once taken.runs.free in
-      let t = thin_cell nb c code taken.runs.thin e in
       let kept : (a : ℕ) → edge nb a c ≡ true → Unchanged a = λ a edge. before a edge (parents_kept a c below edge off) in
       let may : list_all (ended_ok old.frames) (parents nb c) ≡ list_all (ended_ok new.frames) (parents nb c) =
       may_run_alike nb old.frames new.frames c (λ a edge. (kept a edge).result.ended) in
       let agree : (x : Name) → is_among x (refs code) ≡ true → look_up x r.env ≡ look_up x s.env =
       cell_referenced nb budget ui present c code e r s
       (λ a x edge defined read. one_binding ui present x (same_present a x (parents_kept a c below edge off) defined (reads_none c x below off read)) ((kept a edge).bindings x defined)) in
-      let alike = thin_but_present (thin_form.elements_of nb) t.0 budget ui present (list_all (ended_ok old.frames) (parents nb c)) c r.env s.env code t.1 agree in
+      let may_run : Bool = list_all (ended_ok old.frames) (parents nb c) in
+      let alike = same_then_like
+      (taken.runs.runnable.by_references budget ui may_run c code r.env s.env e (ran_defined r) (ran_defined s) agree)
+      (taken.runs.runnable.but_present budget ui present may_run c code s.env e (ran_defined s)) in
       let same : outcome_of budget present (list_all (ended_ok old.frames) (parents nb c)) c s.env code ≡ outcome_in nb budget present new.frames c s.env code =
       ap (λ b. outcome_of budget present b c s.env code) may in
       record {
@@ -167,7 +164,7 @@ module _ (nb : List Cell) (budget : ℕ) (ui sets : Map Value) (taken : AreTaken
         bindings = λ x defined.
             let here : is_among x (defs code) ≡ true = sym (defs_are nb c code x e) ∙ defined in
             related_defined nb budget ui present (order nb) old new c code r s (SameBinding ui present x) x here
-            (subst (λ (o : Outcome). SameBinding ui present x (look_up x (outcome_in nb budget ui old.frames c r.env code).env) (look_up x o.env)) same (alike.defined x here).bound);
+            (subst (λ (o : Outcome). SameBinding ui present x (look_up x (outcome_in nb budget ui old.frames c r.env code).env) (look_up x o.env)) same (alike.defined x here));
       }
 
   -- A cell that doesn't run again has in the new whole the result that it had in the old one.
@@ -197,8 +194,8 @@ module _ (nb : List Cell) (budget : ℕ) (ui sets : Map Value) (taken : AreTaken
       (λ no. whole_only nb budget ui x no ∙ sym (whole_only nb budget present x no))
       (cases_Bool (defined_in nb (order nb) x))
 
-  at_present : (x : Name) (e : ElementData) → look_up x new.env ≡ Some (Plain (V.Element e)) → at_kept (look_up x present) e ≡ e
-  at_present = whole_at_kept nb budget present taken.runs.thin (next_plain nb old.env ui sets taken.plain)
+  at_present : (x : Name) (e : ElementData) → element_in new.env x ≡ Some e → at_kept (look_up x present) e ≡ e
+  at_present = whole_at_kept nb budget present taken.runs (next_plain nb old.env ui sets taken.plain)
 
   set_kept : (x : Name) → defined_in nb again x ≡ false → is_among x (names_of sets) ≡ true
       → look_up x (laid_by old.env sets old.env) ≡ look_up x new.env
@@ -212,7 +209,7 @@ module _ (nb : List Cell) (budget : ℕ) (ui sets : Map Value) (taken : AreTaken
       let w = some_at (λ a. is_among x (defs_of nb a)) (order nb) some in
       let now : look_up x present ≡ Some (value_of laid.now) =
       next_kept nb old.env ui sets x (no_element w.0 x (kept_definer x off w.0 w.2) w.2) ∙ laid.value in
-      laid.element ∙ sym (laid_binding ui present x laid.now e ((bound_alike x off w.0 w.2).bindings x w.2) now (at_present x) bound))
+      laid.element ∙ sym (laid_binding ui present x laid.now e ((bound_alike x off w.0 w.2).bindings x w.2) now (at_present x) there.1))
       (λ no. absurd (none-some (Plain (V.Element e)) (sym (whole_only nb budget ui x no) ∙ bound)))
       (cases_Bool (defined_in nb (order nb) x))
 

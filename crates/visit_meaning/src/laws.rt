@@ -11,23 +11,23 @@ ghost use Rattle.visit_meaning.specs.Answer.{Before, On, Message, element_in, st
 ghost use Rattle.graph_meaning.specs.Graph.{elements_of, NoneDoubled, NoneCyclic};
 ghost use Rattle.visit_meaning.specs.Messages.{IsMessage};
 ghost use Rattle.visit_meaning.specs.Whole.{ended_ok, whole};
-ghost use Rattle.form_meaning.specs.Thin.{are_thin};
+ghost use Rattle.visit_meaning.specs.Runnable.{Runnable};
 
 /// No bytes are two messages.
 pub fn messages_are_read_one_way()
     ensures one { (bytes : List ℕ) (m k : Message) → IsMessage bytes m → IsMessage bytes k → m ≡ k }
 {}
 
-/// What is in being in an accepted notebook where a visitor's messages have led: an element of each name that a cell creates which has
+/// What is in being in a notebook that runs where a visitor's messages have led: an element of each name that a cell creates which has
 /// ended ok, and no other; and each present value is that of an element in being, which admits it as it is.
 pub fn elements_in_being()
-    ensures being { (nb : List Cell) → are_thin nb ≡ true → NoneDoubled nb → NoneCyclic nb
+    ensures being { (nb : List Cell) → Runnable nb → NoneDoubled nb → NoneCyclic nb
         → (budget : ℕ) (ms : List Message) (ui : Map Value)
         → state_after nb budget Before ms ≡ On ui → (x : Name)
         → (((e : ElementData) × (element_in (whole nb budget ui).env x ≡ Some e))
         ↔ ((c : ℕ) × (is_among x (elements_of nb c) ≡ true)
         × (ended_ok (whole nb budget ui).frames c ≡ true))) }
-    ensures present { (nb : List Cell) → are_thin nb ≡ true → NoneDoubled nb → NoneCyclic nb
+    ensures present { (nb : List Cell) → Runnable nb → NoneDoubled nb → NoneCyclic nb
         → (budget : ℕ) (ms : List Message) (ui : Map Value)
         → state_after nb budget Before ms ≡ On ui → (x : Name) (v : Value) → look_up x ui ≡ Some v
         → (e : ElementData) × (d : Data) × (element_in (whole nb budget ui).env x ≡ Some e)

@@ -1,19 +1,21 @@
 -- The command of the words is carried out, or what stops it stops the run.
-use Rattle.std.proofs.Common.{◌∙◌, refl, sym, ap, subst, ℕ, List, [], ◌∷◌, map}
+use Rattle.std.proofs.Common.{◌∙◌, refl, sym, ap, subst, ℕ, List, [], ◌∷◌, map, Option}
 use Rattle.std.specs.Prelude.{Some, string_bytes}
 use Rattle.std.proofs.lemmas.Result.{IfErr-weaker, IfOk-weaker}
 use Rattle.link_io.specs.Outside.{Rose}
 use Rattle.visit_meaning.specs.Answer.{Open}
 use Rattle.program_meaning.specs.Program.{notebook_of, IsLoaded}
+use Rattle.visit_meaning.specs.Runnable.{Runnable}
+use Rattle.thin_runs.proofs.ThinRuns.{thin_runnable}
 use Rattle.py_tree.specs.Trees.{Cell}
 use Rattle.py_tree.specs.View.{view_cells}
 use Rattle.nbserve.proofs.Carrying.{same_played, unloaded_stops, unplayed_stops}
 use Rattle.kernel.proofs.Outcomes.{if_err_of}
-use Rattle.nbserve.specs.Asked.{asked}
-use Rattle.nbserve.specs.Carried as carried
-use Rattle.nbserve.specs.Carried.{Carried, IsPlayed}
-use Rattle.nbserve.specs.Stops.{IsStopped, IsUnloaded, IsUnplayed}
-use Rattle.nbserve.specs.declared.stop.Stop.{Stop}
+use Rattle.nbserve.specs.Command.{asked}
+use Rattle.nbserve.specs.Execution as carried
+use Rattle.nbserve.specs.Execution.{Carried, IsPlayed}
+use Rattle.nbserve.specs.CommandFault.{IsStopped, IsUnloaded, IsUnplayed}
+use Rattle.nbserve.specs.declared.command_fault.CommandFault.{CommandFault}
 use Rattle.nbserve.proofs.top.carry_out.Goals as goal
 
 pub returns-in_err-notebook-clause-stopped : goal.returns-in_err-notebook-clause-stopped
@@ -25,6 +27,16 @@ returns-in_err-notebook-clause-stopped g c =
     if_err_of c.from_residual.result why (IsStopped holds failed words) c.from_residual.ensures.1
     (unloaded_stops holds failed words (asked c.in-Some.command) why (sym c.in-Some.ensures)
     (subst (λ file. IsUnloaded holds failed file why) c.notebook.ensures c.in_err-notebook.ensures.unloaded))
+
+-- the notebook is one that a kernel can run
+runs : {holds : List ℕ → Option (Option (List ℕ))} {file : List ℕ} {nb : List Cell} → IsLoaded holds file nb → Runnable nb
+runs {nb = nb} loaded = thin_runnable nb loaded.2.form.thin
+
+pub perform-requires : goal.perform-requires
+perform-requires g c = runs c.in_ok-notebook.ensures.loaded
+
+pub perform_script-requires : goal.perform_script-requires
+perform_script-requires g c = runs c.in_ok-notebook.ensures.loaded
 
 pub returns-in-Once-clause-carried : goal.returns-in-Once-clause-carried
 returns-in-Once-clause-carried g c =
@@ -63,7 +75,7 @@ returns-clause-stopped g c =
     let first = g.F.Files.faults c.args.files.now in
     let between = g.F.Files.faults c.notebook_in.new.files in
     let last = g.F.Files.faults c.perform_script.new.files in
-    let stops : (why : Stop) → IsUnplayed later (Rose between last) script why → IsStopped holds (Rose first last) words why = λ why is.
+    let stops : (why : CommandFault) → IsUnplayed later (Rose between last) script why → IsStopped holds (Rose first last) words why = λ why is.
     unplayed_stops holds later first between last words file script nb why
     (sym c.in-Some.ensures ∙ ap (λ command. Some (asked command)) c.in-Play.is)
     (subst (λ name. IsLoaded holds name nb) (c.notebook.ensures ∙ ap (λ command. notebook_of (asked command)) c.in-Play.is) c.in_ok-notebook.ensures.loaded)

@@ -5,9 +5,9 @@ use Rattle.visit_meaning.proofs.PresentValues.{settled}
 use Rattle.visit_meaning.proofs.laws.elements_in_being.Goals as goal
 
 pub returns-clause-being : goal.returns-clause-being
-returns-clause-being c = λ nb thin once free budget ms ui led.
-    let runs : Runs nb = record { thin = thin; once = once; free = free } in in_being nb budget ui runs (settled nb budget ms ui runs led).0
+returns-clause-being c = λ nb runnable once free budget ms ui led.
+    let runs : Runs nb = record { runnable = runnable; once = once; free = free } in in_being nb budget ui runs (settled nb budget ms ui runs led).0
 
 pub returns-clause-present : goal.returns-clause-present
-returns-clause-present c = λ nb thin once free budget ms ui led.
-    let runs : Runs nb = record { thin = thin; once = once; free = free } in (settled nb budget ms ui runs led).1
+returns-clause-present c = λ nb runnable once free budget ms ui led.
+    let runs : Runs nb = record { runnable = runnable; once = once; free = free } in (settled nb budget ms ui runs led).1

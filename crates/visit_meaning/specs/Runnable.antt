@@ -1,0 +1,71 @@
+-- What a kernel and the theory of its visits need of a notebook. It is said of names, numbers and outcomes, whatever forms its code has.
+use Rattle.std.specs.Prelude.{◌≡◌, ℕ, ◌+◌, ◌^◌, ◌<◌, Bool, true, false, not, List, length, Option, Some, None, slice_get}
+use Rattle.std.specs.List.{list_all}
+use Rattle.py_tree.specs.Elements.{elements}
+use Rattle.py_tree.specs.Levels.{are_levelled}
+use Rattle.py_tree.specs.Names.{Name, is_among, is_local}
+use Rattle.py_tree.specs.Scope.{bound, defs, refs}
+use Rattle.py_tree.specs.Trees.{Cell}
+use Rattle.py_value.specs.ElementData.{ElementData}
+use Rattle.py_value.specs.Elements.{at_kept}
+use Rattle.py_value.specs.Maps.{Map, look_up}
+use Rattle.py_value.specs.declared.types.Value.{Value}
+use Rattle.py_value.specs.declared.types.Value.TheVariants as V
+use Rattle.run_meaning.specs.declared.binding.Binding.{Binding}
+use Rattle.run_meaning.specs.declared.binding.Binding.TheVariants.{Plain}
+use Rattle.visit_meaning.specs.Answer.{element_in}
+use Rattle.graph_meaning.specs.Graph.{defs_of, elements_of}
+use Rattle.run_meaning.specs.Meaning.{Env}
+use Rattle.visit_meaning.specs.Underway.{HasNoElements}
+use Rattle.visit_meaning.specs.Whole.{Outcome, outcome_of, is_ok, whole}
+
+-- no name is bound but those that cells define
+abbrev pub BindsDefined : List Cell → Env → Type 0
+BindsDefined nb env = (x : Name) → ((a : ℕ) → is_among x (defs_of nb a) ≡ false) → look_up x env ≡ None
+
+-- two outcomes have the same result and the same cost, and the same at these names
+pub record SameOutcome (names : List Name) (o p : Outcome) : Type 0 where
+  pub frame : o.frame ≡ p.frame
+  pub cost : o.cost ≡ p.cost
+  pub defined : (x : Name) → is_among x names ≡ true → look_up x o.env ≡ look_up x p.env
+
+-- what a name is bound to in two runs: the same, or one element, in each at the present value that is kept for the name
+pub data SameBinding (ui ui' : Map Value) (x : Name) : Option Binding → Option Binding → Type 0 where
+  same_bound : {o : Option Binding} → SameBinding ui ui' x o o
+  one_element : (e : ElementData)
+      → SameBinding ui ui' x (Some (Plain (V.Element (at_kept (look_up x ui) e)))) (Some (Plain (V.Element (at_kept (look_up x ui') e))))
+
+-- two outcomes have the same result and the same cost, and at these names the same but for the present values of elements
+pub record LikeOutcome (ui ui' : Map Value) (names : List Name) (o p : Outcome) : Type 0 where
+  pub frame : o.frame ≡ p.frame
+  pub cost : o.cost ≡ p.cost
+  pub defined : (x : Name) → is_among x names ≡ true → SameBinding ui ui' x (look_up x o.env) (look_up x p.env)
+
+-- the name is bound to an element of this name, at the present value that is kept for it
+abbrev pub IsMade : Map Value → Name → Env → Type 0
+IsMade ui x env = (e : ElementData) × (element_in env x ≡ Some e) × (at_kept (look_up x ui) e ≡ e)
+
+-- a notebook that a kernel can run
+pub record Runnable (nb : List Cell) : Type 0 where
+  -- the cells, and one frame more, are counted in 32 bits
+  pub few : length nb + 1 < 2 ^ 32
+  -- what the evaluator asks of a cell's block: each operand binds as tightly as its place asks for, and no name with a leading underscore
+  -- is bound at cell scope
+  pub levelled : (c : ℕ) (code : Cell) → slice_get nb c ≡ Some code → are_levelled code.body ≡ true
+  pub plain : (c : ℕ) (code : Cell) → slice_get nb c ≡ Some code → list_all (λ x. not (is_local x)) (bound code.body) ≡ true
+  -- What a cell does depends on the bindings only at the names that it references.
+  pub by_references : (budget : ℕ) (ui : Map Value) (may_run : Bool) (c : ℕ) (code : Cell) (env env' : Env) → slice_get nb c ≡ Some code
+      → BindsDefined nb env → BindsDefined nb env' → ((x : Name) → is_among x (refs code) ≡ true → look_up x env ≡ look_up x env')
+      → SameOutcome (defs code) (outcome_of budget ui may_run c env code) (outcome_of budget ui may_run c env' code)
+  -- It depends on the present values only at the elements that it defines: these are at them, and all else is the same.
+  pub but_present : (budget : ℕ) (ui ui' : Map Value) (may_run : Bool) (c : ℕ) (code : Cell) (env : Env) → slice_get nb c ≡ Some code
+      → BindsDefined nb env
+      → LikeOutcome ui ui' (defs code) (outcome_of budget ui may_run c env code) (outcome_of budget ui' may_run c env code)
+  -- A cell defines the names of the elements that it creates, and where it has ended ok, they are bound to these elements.
+  pub created : (c : ℕ) (x : Name) → is_among x (elements_of nb c) ≡ true → is_among x (defs_of nb c) ≡ true
+  pub made : (budget : ℕ) (ui : Map Value) (may_run : Bool) (c : ℕ) (code : Cell) (env : Env) (x : Name) → slice_get nb c ≡ Some code
+      → BindsDefined nb env → is_among x (elements code) ≡ true → is_ok (outcome_of budget ui may_run c env code).frame.status ≡ true
+      → IsMade ui x (outcome_of budget ui may_run c env code).env
+  -- Where no element is kept as a value, the whole binds no name to an element of this name but those that cells create.
+  pub only_made : (budget : ℕ) (ui : Map Value) (x : Name) (e : ElementData) → HasNoElements ui → element_in (whole nb budget ui).env x ≡ Some e
+      → (c : ℕ) × (is_among x (elements_of nb c) ≡ true)
