@@ -1,0 +1,5 @@
+import marimo
+app = marimo.App()
+@app.cell
+def _():
+    x

@@ -1,0 +1,4 @@
+import marimo
+app = marimo.App()
+@app.cell
+def _():

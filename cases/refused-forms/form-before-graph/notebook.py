@@ -1,0 +1,10 @@
+import marimo
+app = marimo.App()
+@app.cell
+def _():
+    b = 1
+@app.cell
+def _():
+    b = 1
+if __name__ == "__main__":
+    app.run()

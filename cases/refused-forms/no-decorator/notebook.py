@@ -1,0 +1,4 @@
+import marimo
+app = marimo.App()
+def _():
+    x

@@ -1,0 +1,7 @@
+import marimo
+app = marimo.App()
+@app.cell
+def _():
+    s = mo.ui.slider(0, 10)
+if __name__ == "__main__":
+    app.run()
