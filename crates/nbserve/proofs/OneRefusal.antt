@@ -4,12 +4,17 @@ use Rattle.std.proofs.lemmas.Bool.{cases_lt, eq-eqb, or_left}
 use Rattle.std.proofs.lemmas.Bool.Decides.{same_from_decides}
 use Rattle.std.proofs.lemmas.List.Elements.{filter_agree}
 use Rattle.std.proofs.lemmas.Option.{same_Some}
+use Rattle.form_meaning.specs.Thin.{IsForm}
 use Rattle.graph_meaning.specs.Graph.{all_cells, is_in, name_again, first_definer, IsDoubled, NoneDoubled, AreCyclic, NoneCyclic}
 use Rattle.program_meaning.specs.Program.{IsAccepted, Refusal, Thin, Doubly, Cycle, FailsFirst}
 use Rattle.py_tree.specs.Names.{Name}
 use Rattle.py_tree.specs.Trees.{Cell}
 use Rattle.thin_form.proofs.OneFailure.{formless, same_failure}
 use Rattle.thin_form.proofs.OneToOne.{same_form}
+
+-- bytes are the file of one notebook
+pub one_notebook : (bytes : List ℕ) (nb other : List Cell) → IsForm bytes nb → IsForm bytes other → nb ≡ other
+one_notebook = same_form
 
 -- ---- the name that is defined again
 

@@ -3,8 +3,7 @@ use Rattle.std.proofs.Common.{◌≡◌, ◌∙◌, refl, sym, ap, subst, inl, i
 use Rattle.std.specs.Prelude.{Option, Some, None, IfSome}
 use Rattle.std.proofs.lemmas.Option.{same_Some}
 use Rattle.link_io.specs.Outside.{Took}
-use Rattle.nbserve.proofs.OneRefusal.{none_refused}
-use Rattle.thin_form.proofs.OneToOne.{same_form}
+use Rattle.nbserve.proofs.OneRefusal.{none_refused, one_notebook}
 use Rattle.visit_meaning.specs.Answer.{Before, Message, Open, cost_of_parts, parts_from, work}
 use Rattle.program_meaning.specs.Program as program
 use Rattle.program_meaning.specs.Program.{Comes, Command, Once, Play, command_of, notebook_of, AreRead, IsAccepted, IsLoaded, IsRefused, Refusal, FailsFirst, read_of, once_text, usual_budget}
@@ -91,7 +90,7 @@ done_or_cut (wrote.unfinished e part) stopped = grind (arith, e, stopped)
 -- the notebook that was loaded, and the messages that were played, are those of the words
 opened_parts : (holds : List ℕ → Option (Option (List ℕ))) (words : List (List ℕ)) (f : List ℕ) (n nb : List Cell) (ms : List Message) → command_of words ≡ Some (Once f) → IsLoaded holds f n → Works holds words nb ms → parts_from n usual_budget Before (Open ∷ []) ≡ parts_from nb usual_budget Before ms
 opened_parts holds words f n nb ms a l (works.once file all asked told ok sent) =
-    let same = same_form (read_of all) n nb (loaded_is holds f file all n (same_once words f file a asked) told l).form ok.form in
+    let same = one_notebook (read_of all) n nb (loaded_is holds f file all n (same_once words f file a asked) told l).form ok.form in
     ap (λ cells. parts_from cells usual_budget Before (Open ∷ [])) same ∙ ap (parts_from nb usual_budget Before) (sym sent)
 opened_parts holds words f n nb ms a l (works.play file script all text said asked told ok shown is sent) = absurd (once_or_play words f file script a asked)
 
@@ -99,7 +98,7 @@ played_parts : (holds : List ℕ → Option (Option (List ℕ))) (words : List (
 played_parts holds words f s bytes n played nb ms a l r i (works.once file all asked told ok sent) = absurd (once_or_play words file f s asked a)
 played_parts holds words f s bytes n played nb ms a l r i (works.play file script all text said asked told ok shown is sent) =
     let names = same_play words f file s script a asked in
-    let same = same_form (read_of all) n nb (loaded_is holds f file all n names.0 told l).form ok.form in
+    let same = one_notebook (read_of all) n nb (loaded_is holds f file all n names.0 told l).form ok.form in
     let one = scripts_read.one (read_of text) played said (subst (λ b. IsScript b played) (read_is holds s script bytes text names.1 shown r) i) is in
     ap (λ cells. parts_from cells usual_budget Before (messages_of played)) same
     ∙ ap (λ script. parts_from nb usual_budget Before (messages_of script)) one ∙ ap (parts_from nb usual_budget Before) (sym sent)

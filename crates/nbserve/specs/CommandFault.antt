@@ -1,9 +1,5 @@
 -- Commands that aren't carried out, and notebooks that aren't loaded.
 use Rattle.std.specs.Prelude.{◌≡◌, ◌⊎◌, ℕ, List, [], codes, Option}
-use Rattle.cell_graph.specs.declared.fault.GraphFault.{GraphFault}
-use Rattle.cell_graph.specs.declared.fault.GraphFault.TheVariants as graph
-use Rattle.thin_form.specs.declared.thin_file.ThinFault.{ThinFault}
-use Rattle.thin_form.specs.declared.thin_file.ThinFault.TheVariants as form
 use Rattle.program_meaning.specs.Program as program
 use Rattle.program_meaning.specs.Program.{AreRead, Comes, FailsFirst, refusal_text}
 use Rattle.program_meaning.specs.Scripts.{FaultAt, fault_text}
@@ -14,16 +10,7 @@ use Rattle.nbserve.specs.declared.command_fault.CommandFault.{CommandFault}
 use Rattle.nbserve.specs.declared.command_fault.CommandFault.TheVariants as stop
 use Rattle.nbserve.specs.Refusal.{refusal_of}
 
--- why, where the file isn't of the form, where its cells are no notebook, and where bytes are no script
-abbrev pub of_form : ThinFault → CommandFault
-of_form (form.Thin line) = stop.Refused (refusal.Thin line)
-of_form form.Memory = stop.Memory
-
-abbrev pub of_graph : GraphFault → CommandFault
-of_graph (graph.Doubly x first second) = stop.Refused (refusal.Doubly x first second)
-of_graph (graph.Cycle cells) = stop.Refused (refusal.Cycle cells)
-of_graph graph.Memory = stop.Memory
-
+-- why, where bytes are no script
 abbrev pub of_script : ScriptFault → CommandFault
 of_script (script.Line line) = stop.NoScript line
 of_script script.Memory = stop.Memory

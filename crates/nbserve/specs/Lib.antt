@@ -1,6 +1,7 @@
 pub mod Command
 pub mod CommandFault
 pub mod Execution
+pub mod LoadFault
 pub mod Output
 pub mod Refusal
 pub mod Works

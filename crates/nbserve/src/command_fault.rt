@@ -8,11 +8,9 @@ ghost use Rattle.program_meaning.specs.Program as program;
 ghost use Rattle.program_meaning.specs.Scripts as scripts;
 
 use crate::refusal::{Refusal, refusal_text};
-use cell_graph::GraphFault;
 use link_io::{Sink, write_all};
 use script_run::ScriptFault;
 use std::alloc::Global;
-use thin_form::ThinFault;
 
 // The program's statuses.
 /// All was written.
@@ -45,45 +43,6 @@ pub enum CommandFault {
     NoScript { line: u32 },
     /// Memory was wanting.
     Memory,
-}
-
-impl From<ThinFault> for CommandFault {
-    ghost use Rattle.std.specs.Prelude.{◌≡◌};
-    ghost use Rattle.nbserve.specs.CommandFault.{of_form};
-
-    ghost from_gives = { λ fault why. why ≡ of_form fault };
-
-    fn from(fault: ThinFault) -> CommandFault {
-        match fault {
-            ThinFault::Thin { line } => CommandFault::Refused(Refusal::Thin { line }),
-            ThinFault::Memory => CommandFault::Memory,
-        }
-    }
-}
-
-impl From<GraphFault> for CommandFault {
-    ghost use Rattle.std.specs.Prelude.{◌≡◌};
-    ghost use Rattle.nbserve.specs.CommandFault.{of_graph};
-
-    ghost from_gives = { λ fault why. why ≡ of_graph fault };
-
-    fn from(fault: GraphFault) -> CommandFault {
-        match fault {
-            GraphFault::Doubly {
-                name,
-                first,
-                second,
-            } => {
-                CommandFault::Refused(Refusal::Doubly {
-                    name,
-                    first,
-                    second,
-                })
-            }
-            GraphFault::Cycle { cells } => CommandFault::Refused(Refusal::Cycle { cells }),
-            GraphFault::Memory => CommandFault::Memory,
-        }
-    }
 }
 
 impl From<ScriptFault> for CommandFault {

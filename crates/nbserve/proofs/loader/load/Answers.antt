@@ -4,7 +4,8 @@ use Rattle.std.proofs.lemmas.List.{length-map}
 use Rattle.program_meaning.specs.Program.{IsAccepted}
 use Rattle.py_tree.specs.View.{view_cell, view_cells}
 use Rattle.thin_runs.proofs.ThinCode.{thin_few}
-use Rattle.nbserve.specs.CommandFault.{IsWhy, of_form}
+use Rattle.nbserve.specs.CommandFault.{IsWhy}
+use Rattle.nbserve.specs.LoadFault.{of_form}
 use Rattle.kernel.proofs.Results.{if_err_of}
 use Rattle.nbserve.proofs.FormFault.{refused_by_form}
 use Rattle.nbserve.proofs.loader.load.Goals as goal
