@@ -11,17 +11,17 @@ ghost use Rattle.py_tree.specs.View.{view, views};
 ghost use Rattle.py_value.specs.Maps.{look_up};
 
 use crate::eval::eval_all;
-use crate::meter::{Stop, charge, stop_at, unknown_form};
+use crate::meter::{Halt, charge, halt_at, unknown_form};
 use crate::scene::{Env, Scene};
-use run_meaning::Binding;
 use py_tree::{Expr, Spelling, ui_kind};
 use py_value::{ErrorKind, Kind, Lines, Text, Value, Values, copy, operand_charge};
+use run_meaning::Binding;
 use std::alloc::Global;
 use ui_elements::{Args, Words, make};
 
 /// The value of a call that is the right side of an assignment to these targets. No calls but those of `mo.ui` are part of the language
 /// yet.
-pub fn called(
+pub fn call_value(
     alloc: Global,
     targets: &[Spelling],
     callee: &Expr,
@@ -30,7 +30,7 @@ pub fn called(
     env: &Env,
     line: u32,
     left: &mut u64,
-) -> Result<Value, Stop>
+) -> Result<Value, Halt>
     requires { IsTrue (are_levelled_trees (views arguments.now)) }
     ensures meets { Meets (λ v. v) result left.new
         (spend (calls_for (scene_of scene.now) env.now line targets.now (view callee.now)
@@ -50,19 +50,19 @@ pub fn called(
 
 /// The present value of an element, which can't be had in the cell that creates it.
 #[tactic(auto, using(crate::proofs::Present::seen))]
-pub fn present_of(alloc: Global, scene: &Scene, value: &Value, line: u32) -> Result<Value, Stop>
+pub fn present_of(alloc: Global, scene: &Scene, value: &Value, line: u32) -> Result<Value, Halt>
     ensures { (left : ℕ)
         → Meets (λ v. v) result left
         (spend (meaning.present_of (scene_of scene.now) line value.now) left []) }
 {
     let Value::Element(element) = value else {
-        return Err(Stop::Fault {
+        return Err(Halt::Fault {
             kind: ErrorKind::AttributeError,
             line,
         });
     };
     if is_one_of(element.name(), scene.own) {
-        return Err(Stop::Fault {
+        return Err(Halt::Fault {
             kind: ErrorKind::RuntimeError,
             line,
         });
@@ -80,7 +80,7 @@ fn element(
     env: &Env,
     line: u32,
     left: &mut u64,
-) -> Result<Value, Stop>
+) -> Result<Value, Halt>
     requires { IsTrue (are_levelled_trees (views arguments.now)) }
     ensures meets { Meets (λ v. v) result left.new
         (spend (element_of (scene_of scene.now) env.now line name.now kind
@@ -102,12 +102,12 @@ fn make_element(
     places: Vec<Value>,
     scene: &Scene,
     line: u32,
-) -> Result<Value, Stop>
+) -> Result<Value, Halt>
     ensures { (left : ℕ)
         → Meets (λ v. v) result left
         (spend (made_at (scene_of scene.now) line name.now kind places.items) left []) }
 {
-    let label = Text::of(String::from_str(alloc, name)?);
+    let label = Text::copied(alloc, name)?;
     let args = Args {
         places: Values::of(places),
         words: Words::of(Vec::new(alloc)),
@@ -119,12 +119,12 @@ fn make_element(
             }
             Ok(Value::Element(element))
         }
-        Err(fault) => Err(stop_at(fault, line)),
+        Err(fault) => Err(halt_at(fault, line)),
     }
 }
 
 // Whether `mo` is bound to the module.
-fn read_module(env: &Env, line: u32) -> Result<(), Stop>
+fn read_module(env: &Env, line: u32) -> Result<(), Halt>
     ensures { (left : ℕ)
         → Meets unit result left (spend (read_module line (look_up (codes "mo") env.now)) left []) }
 {
@@ -132,7 +132,7 @@ fn read_module(env: &Env, line: u32) -> Result<(), Stop>
         Some(Binding::Module) => Ok(()),
         Some(Binding::Plain(_)) => Err(unknown_form(line)),
         None => {
-            Err(Stop::Fault {
+            Err(Halt::Fault {
                 kind: ErrorKind::NameError,
                 line,
             })

@@ -14,11 +14,11 @@ ghost use Rattle.py_value.specs.Maps.{look_up};
 ghost use Rattle.py_value.specs.Whole.{sum_of};
 
 use crate::elements::present_of;
-use crate::meter::{Stop, charge, stop_at, unknown_form};
+use crate::meter::{Halt, charge, halt_at, unknown_form};
 use crate::scene::{Env, Scene};
-use run_meaning::Binding;
 use py_tree::{Expr, Spelling, literal_int};
 use py_value::{ErrorKind, Value, add, copy};
+use run_meaning::Binding;
 use std::alloc::Global;
 
 /// The value of an expression on a line, for which so many steps are left.
@@ -29,7 +29,7 @@ pub fn eval(
     env: &Env,
     line: u32,
     left: &mut u64,
-) -> Result<Value, Stop>
+) -> Result<Value, Halt>
     requires { IsTrue (is_levelled (view tree.now)) }
     ensures meets { Meets (λ v. v) result left.new
         (spend (value_of (scene_of scene.now) env.now line (view tree.now)) left.old []) }
@@ -67,7 +67,7 @@ pub fn eval_all(
     env: &Env,
     line: u32,
     left: &mut u64,
-) -> Result<Vec<Value>, Stop>
+) -> Result<Vec<Value>, Halt>
     requires { IsTrue (are_levelled_trees (views trees.now)) }
     ensures meets { Meets (λ vs. vs.items) result left.new
         (spend (values_after [] (scene_of scene.now) env.now line (views trees.now)) left.old []) }
@@ -81,7 +81,7 @@ pub fn eval_all(
 }
 
 // The value that a name is bound to.
-fn bound_value<'a>(env: &'a Env, name: &str, line: u32) -> Result<&'a Value, Stop>
+fn bound_value<'a>(env: &'a Env, name: &str, line: u32) -> Result<&'a Value, Halt>
     ensures { (left : ℕ)
         → Meets (λ v. v.now) result left (spend (read line (look_up name.now env.now)) left []) }
 {
@@ -89,7 +89,7 @@ fn bound_value<'a>(env: &'a Env, name: &str, line: u32) -> Result<&'a Value, Sto
         Some(Binding::Plain(value)) => Ok(value),
         Some(Binding::Module) => Err(unknown_form(line)),
         None => {
-            Err(Stop::Fault {
+            Err(Halt::Fault {
                 kind: ErrorKind::NameError,
                 line,
             })
@@ -105,7 +105,7 @@ fn present_of_name(
     env: &Env,
     line: u32,
     left: &mut u64,
-) -> Result<Value, Stop>
+) -> Result<Value, Halt>
     ensures meets { Meets (λ v. v) result left.new
         (spend (value_of (scene_of scene.now) env.now line
         (trees.name name.now) followed_by meaning.present_of
@@ -124,12 +124,12 @@ fn is_value(name: &Spelling) -> bool
 }
 
 // The sum of two values.
-fn sum(left: &Value, right: &Value, line: u32) -> Result<Value, Stop>
+fn sum(left: &Value, right: &Value, line: u32) -> Result<Value, Halt>
     ensures { (rest : ℕ)
         → Meets (λ v. v) result rest (spend (result_at line (sum_of left.now right.now)) rest []) }
 {
     match add(left, right) {
         Ok(value) => Ok(value),
-        Err(fault) => Err(stop_at(fault, line)),
+        Err(fault) => Err(halt_at(fault, line)),
     }
 }

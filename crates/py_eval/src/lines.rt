@@ -11,13 +11,13 @@ ghost use Rattle.py_tree.specs.Scope.{head_binds, bound};
 ghost use Rattle.py_tree.specs.View.{view, view_head, view_stmts};
 ghost use Rattle.py_value.specs.Maps.{where_name};
 
-use crate::elements::called;
+use crate::elements::call_value;
 use crate::eval::eval;
-use crate::meter::{Stop, charge};
+use crate::meter::{Halt, charge};
 use crate::scene::{Env, Scene};
-use run_meaning::Binding;
 use py_tree::{Expr, Line, Spelling, Stmt};
 use py_value::{ErrorKind, Text, Value};
+use run_meaning::Binding;
 use std::alloc::Global;
 
 /// Runs lines in order, and gives the value of the last one where it is an expression.
@@ -27,7 +27,7 @@ pub fn run_lines(
     scene: &Scene,
     env: &mut Env,
     left: &mut u64,
-) -> Result<Option<Value>, Stop>
+) -> Result<Option<Value>, Halt>
     requires { IsTrue (are_levelled (view_stmts stmts.now)) }
     ensures meets { Meets (λ last. record { last = last; env = env.new }) result left.new
         (spend (block_of (scene_of scene.now) env.old (view_stmts stmts.now)) left.old []) }
@@ -51,7 +51,7 @@ fn run_line(
     scene: &Scene,
     env: &mut Env,
     left: &mut u64,
-) -> Result<Option<Value>, Stop>
+) -> Result<Option<Value>, Halt>
     requires { IsTrue (is_levelled_head (view_head line.now)) }
     ensures meets { Meets (λ last. record { last = last; env = env.new }) result left.new
         (spend (head_of (scene_of scene.now) env.old number (view_head line.now)) left.old []) }
@@ -68,7 +68,7 @@ fn run_line(
             Ok(None)
         }
         Line::ImportMo => {
-            let name = Text::of(String::from_str(alloc, "mo")?);
+            let name = Text::copied(alloc, "mo")?;
             env.put(name, Binding::Module)?;
             Ok(None)
         }
@@ -84,7 +84,7 @@ fn right_side(
     env: &Env,
     line: u32,
     left: &mut u64,
-) -> Result<Value, Stop>
+) -> Result<Value, Halt>
     requires { IsTrue (is_levelled (view tree.now)) }
     ensures meets { Meets (λ v. v) result left.new
         (spend (right_of (scene_of scene.now) env.now line targets.now
@@ -94,7 +94,7 @@ fn right_side(
     match tree {
         Expr::Call(callee, arguments) => {
             let arguments = arguments.items();
-            called(
+            call_value(
                 alloc,
                 targets,
                 callee.get(),
@@ -118,19 +118,19 @@ fn bind_targets(
     value: Value,
     line: u32,
     env: &mut Env,
-) -> Result<(), Stop>
+) -> Result<(), Halt>
     ensures meets { (left : ℕ)
         → Meets (λ _. env.new) result left (spend (bind line targets.now value env.old) left []) }
     ensures kept { where_name (λ x. not (is_among x targets.now)) env.new
         ≡ where_name (λ x. not (is_among x targets.now)) env.old }
 {
     let [target] = targets else {
-        return Err(Stop::Fault {
+        return Err(Halt::Fault {
             kind: unpacking_fault(&value),
             line,
         });
     };
-    let name = Text::of(String::from_str(alloc, target.items())?);
+    let name = Text::copied(alloc, target.items())?;
     env.put(name, Binding::Plain(value))?;
     Ok(())
 }

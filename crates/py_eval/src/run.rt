@@ -9,7 +9,7 @@ ghost use Rattle.py_tree.specs.View.{view_block};
 ghost use Rattle.py_value.specs.Maps.{where_name};
 
 use crate::lines::run_lines;
-use crate::meter::Stop;
+use crate::meter::Halt;
 use crate::scene::{Env, Scene};
 use crate::steps::Steps;
 use py_tree::Block;
@@ -61,9 +61,9 @@ pub fn run_block<L: Ledger>(
     let ended = run_lines(alloc, block.items(), scene, env, &mut rest);
     let (end, cost, last) = match ended {
         Ok(last) => (End::Done, left - rest, last),
-        Err(Stop::Fault { kind, line }) => (End::Fault { kind, line }, left - rest, None),
-        Err(Stop::Spent { line }) => (End::Spent { line }, left, None),
-        Err(Stop::Memory) => return Err(Memory),
+        Err(Halt::Fault { kind, line }) => (End::Fault { kind, line }, left - rest, None),
+        Err(Halt::Spent { line }) => (End::Spent { line }, left, None),
+        Err(Halt::Memory) => return Err(Memory),
     };
     steps.charge(cost);
     Ok(Ran {

@@ -8,6 +8,6 @@ use Rattle.py_eval.proofs.lines.bind_targets.Goals as goal
 
 pub returns-clause-kept : goal.returns-clause-kept
 returns-clause-kept c =
-    let name : c.of-name.result ≡ c.target-item.result = c.of-name.ensures ∙ c.in_ok-from_str.ensures.ok ∙ c.items.ensures in
+    let name : c.in_ok-name.name ≡ c.target-item.result = c.in_ok-name.ensures ∙ c.items.ensures in
     ap (where_name (λ x. not (is_among x c.args.targets.now))) c.in_ok-put.ensures.ok
-    ∙ kept_put (λ x. not (is_among x c.args.targets.now)) c.of-name.result (Plain c.args.value) c.args.env.now (ap not (first_among c.of-name.result _ c.args.targets.now (omega (arith, c.in-len1.len_at_least)) (name ∙ c.target-item.is)))
+    ∙ kept_put (λ x. not (is_among x c.args.targets.now)) c.in_ok-name.name (Plain c.args.value) c.args.env.now (ap not (first_among c.in_ok-name.name _ c.args.targets.now (omega (arith, c.in-len1.len_at_least)) (name ∙ c.target-item.is)))

@@ -2,5 +2,5 @@
 use Rattle.py_eval.proofs.Sums.{is_call, arguments_levelled}
 use Rattle.py_eval.proofs.lines.right_side.Goals as goal
 
-pub called-requires : goal.called-requires
-called-requires c = arguments_levelled _ _ _ (is_call _ _ _ _ _ c.in-Call.is c.get.ensures c.items-arguments.ensures) c.requires
+pub call_value-requires : goal.call_value-requires
+call_value-requires c = arguments_levelled _ _ _ (is_call _ _ _ _ _ c.in-Call.is c.get.ensures c.items-arguments.ensures) c.requires

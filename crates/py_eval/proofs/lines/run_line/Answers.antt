@@ -32,6 +32,6 @@ returns-in_ok-bind_targets-in-Assign-clause-meets c =
 pub returns-in_ok-put-in-ImportMo-clause-kept : goal.returns-in_ok-put-in-ImportMo-clause-kept
 returns-in_ok-put-in-ImportMo-clause-kept c =
     let others : Name → Bool = λ x. not (is_among x (codes "mo" ∷ [])) in
-    let name : c.of-name.result ≡ codes "mo" = c.of-name.ensures ∙ c.in_ok-from_str-in-ImportMo.ensures.ok in
+    let name : c.in_ok-name-in-ImportMo.name ≡ codes "mo" = c.in_ok-name-in-ImportMo.ensures in
     rw (ap view_head c.in-ImportMo.is)
     (ap (where_name others) (c.in_ok-put-in-ImportMo.ensures.ok ∙ ap (λ x. put x Module c.args.env.now) name) ∙ kept_put others (codes "mo") Module c.args.env.now refl)
