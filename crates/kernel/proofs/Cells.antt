@@ -13,8 +13,8 @@ use Rattle.py_tree.specs.Scope.{defs, bound}
 use Rattle.py_tree.specs.Trees.{Cell}
 use Rattle.py_value.specs.Maps.{where_name}
 use Rattle.kernel.specs.KernelState.{IsPlain, run_of}
-use Rattle.kernel.specs.Ran.{frame_after, status_after, error_after, settled}
-use Rattle.kernel.specs.declared.kernel_state.KernelState.{KernelState}
+use Rattle.kernel.specs.CellRun.{frame_after, status_after, error_after, settled}
+use Rattle.kernel.specs.declared.state.KernelState.{KernelState}
 use Rattle.kernel.proofs.NamesOf.{among_defs, among_plain}
 use Rattle.kernel.proofs.Without.{where_name_all, where_name_again, where_name_same, where_name_swap}
 

@@ -9,7 +9,7 @@ use Rattle.std.proofs.lemmas.Fmt.{decimal-digits_value, decimal_digit, decimal_n
 use Rattle.std.proofs.lemmas.Str.Parse.{IsNumeralModel, numerals_by_fold}
 use Rattle.py_tree.specs.Names.{is_digit}
 use Rattle.py_tree.specs.Numbers.{is_number, number_of}
-use Rattle.kernel.specs.Read.{IsNumber, Reads, natural_in, negative_in}
+use Rattle.kernel.specs.Message.{IsNumber, Reads, natural_in, negative_in}
 
 -- the number that digits spell behind those that spell n
 abbrev read_on : ℕ → List ℕ → ℕ

@@ -14,7 +14,7 @@ use Rattle.std.proofs.lemmas.Grind.{common_steps}
 use Rattle.std.proofs.lemmas.List.{append_cancel_left}
 use Rattle.std.proofs.lemmas.Slice.Eq.{bytes_eq-Decides}
 use Rattle.std.proofs.lemmas.Str.Pattern.{IsSplitOnceResult, split_parts}
-use Rattle.kernel.specs.Read.{AreParts, IsNumber, IsSet, is_unquoted}
+use Rattle.kernel.specs.Message.{AreParts, IsNumber, IsSet, is_unquoted}
 use Rattle.visit_meaning.proofs.MessageTexts.{from_front, name_unquoted, quoted_once, same_parts, text_with}
 
 -- what a text that sets an element begins with

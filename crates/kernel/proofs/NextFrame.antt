@@ -18,12 +18,12 @@ use Rattle.frames.specs.declared.frame.Frame.TheVariants as frame
 use Rattle.py_tree.specs.Trees.{Cell}
 use Rattle.py_tree.specs.View.{view_cell, view_cells}
 use Rattle.py_tree.specs.declared.tree.CellCode.{CellCode}
-use Rattle.kernel.specs.Coming.{cells_of, left_of}
+use Rattle.kernel.specs.Pending.{cells_of, left_of}
 use Rattle.kernel.specs.KernelState.{IsAfter, IsKept, IsPlain, StandsBy, outcome_at, visit_of}
 use Rattle.kernel.specs.Visit.{Gives, newest_in}
-use Rattle.kernel.specs.declared.coming.Cells.{Cells}
-use Rattle.kernel.specs.declared.coming.Coming.TheVariants as coming
-use Rattle.kernel.specs.declared.kernel_state.KernelState.{KernelState}
+use Rattle.kernel.specs.declared.pending.Cells.{Cells}
+use Rattle.kernel.specs.declared.pending.Pending.TheVariants as pending
+use Rattle.kernel.specs.declared.state.KernelState.{KernelState}
 use Rattle.kernel.proofs.Steps.{parents_ok}
 
 -- ---- the cells that are left
@@ -38,14 +38,14 @@ cut xs i c e = drop_more xs i c (slice_get_within xs i c e) ∙ ap (λ x. x ∷ 
 
 -- what is kept, where these cells are to come from a place on
 abbrev pub standing : KernelState → Cells → ℕ → KernelState
-standing s cells taken = record s { coming = coming.Results cells taken }
+standing s cells taken = record s { pending = pending.Results cells taken }
 
 -- what is kept after a cell
 abbrev pub after : KernelState → Cells → ℕ → ℕ → Env → CellFrame → KernelState
-after s cells taken c env f = record s { env = env; newest = with_item s.newest c (Some f); coming = coming.Results cells (taken + 1) }
+after s cells taken c env f = record s { env = env; newest = with_item s.newest c (Some f); pending = pending.Results cells (taken + 1) }
 
 -- Where a cell is left, the notebook is open.
-on_by : (b : Bool) (s : KernelState) (c : ℕ) (cs : List ℕ) → left_of s.coming ≡ c ∷ cs → StandsBy b s → (b ≡ true) × IsAfter s
+on_by : (b : Bool) (s : KernelState) (c : ℕ) (cs : List ℕ) → left_of s.pending ≡ c ∷ cs → StandsBy b s → (b ≡ true) × IsAfter s
 on_by true s c cs e by = (refl, by)
 on_by false s c cs e by = let no : [] ≡ c ∷ cs = sym by.left ∙ e in absurd cc
 
@@ -122,7 +122,7 @@ module _ (s : KernelState) (cells : Cells) (taken c : ℕ) (code : Cell) (env : 
       let named : given.cell ≡ c = ap (λ (x : CellFrame). x.cell) (same ∙ did.frame) ∙ outcome_cell s.budget s.present (parents_ok s c) c s.env code in
       record {
         cost = (outcome_at s c code).cost;
-        coming = ap (λ cs. flat_map each cs ++ done) (cut (cells_of cells) taken c did.next)
+        pending = ap (λ cs. flat_map each cs ++ done) (cut (cells_of cells) taken c did.next)
             ∙ ap (λ ps. (ps ++ flat_map each rest) ++ done) (next_result nb s.budget s.present (runs_of (standing s cells taken) did.kept) (going_here did) did.code_is)
             ∙ ap (λ (x : CellFrame). let first : Part = record { frame = frame.Cell x; cost = (outcome_at s c code).cost } in first ∷ (flat_map each rest ++ done)) (sym (same ∙ did.frame));
         steps = steps;

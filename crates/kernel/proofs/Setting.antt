@@ -28,12 +28,12 @@ use Rattle.visit_meaning.proofs.AtKept.{next_plain}
 use Rattle.visit_meaning.proofs.ResultsOf.{one_each_kept, results_one_by_one}
 use Rattle.visit_meaning.proofs.SettingValues.{laid_over}
 use Rattle.visit_meaning.proofs.Standing as standing
-use Rattle.kernel.specs.Coming.{cells_of, left_of}
+use Rattle.kernel.specs.Pending.{cells_of, left_of}
 use Rattle.kernel.specs.KernelState.{IsAfter, IsKept, IsPlain, StandsBy, state_of, visit_of}
 use Rattle.kernel.specs.Visit.{Takes, newest_in}
-use Rattle.kernel.specs.declared.coming.Cells.{Cells}
-use Rattle.kernel.specs.declared.coming.Coming.TheVariants as coming
-use Rattle.kernel.specs.declared.kernel_state.KernelState.{KernelState}
+use Rattle.kernel.specs.declared.pending.Cells.{Cells}
+use Rattle.kernel.specs.declared.pending.Pending.TheVariants as pending
+use Rattle.kernel.specs.declared.state.KernelState.{KernelState}
 use Rattle.kernel.proofs.Dropping.{apart_from}
 use Rattle.kernel.proofs.Taken.{counted_cells, few, order_there, runs_of}
 
@@ -78,7 +78,7 @@ again_there nb names again is =
     subst (All (λ c. c < length nb)) (sym is)
     (All-filter (is_within (view_cells nb) names (length (view_cells nb))) (λ c. c < length nb) (order (view_cells nb)) (order_there nb))
 
-module _ (s : KernelState) (kept : IsKept s) (free : s.coming ≡ coming.Nothing) (on : s.on ≡ true) (x : Name) (sent : Value) where
+module _ (s : KernelState) (kept : IsKept s) (free : s.pending ≡ pending.Nothing) (on : s.on ≡ true) (x : Name) (sent : Value) where
   abbrev nb : List Cell
   nb = view_cells s.notebook.now
 
@@ -120,7 +120,7 @@ module _ (s : KernelState) (kept : IsKept s) (free : s.coming ≡ coming.Nothing
 
     -- what is kept then
     abbrev pub set_so : Map Value → Env → Cells → KernelState
-    set_so present env again = record s { present = present; env = env; coming = coming.Results again 0 }
+    set_so present env again = record s { present = present; env = env; pending = pending.Results again 0 }
 
     so_kept : (again : Cells) → cells_of again ≡ cells → IsKept (set_so later (laid_over sets s.env) again)
     so_kept again is =
@@ -146,7 +146,7 @@ module _ (s : KernelState) (kept : IsKept s) (free : s.coming ≡ coming.Nothing
         let one : ℕ → List Part = λ c. results_of nb s.budget later (c ∷ []) in
         record {
           state = ap (λ b. state_of b later) on ∙ sym (ap (λ (a : Answered). a.state) fit);
-          coming = ap (λ cs. flat_map one cs ++ at_no_cost (frame.Done (length cs)) ∷ []) is
+          pending = ap (λ cs. flat_map one cs ++ at_no_cost (frame.Done (length cs)) ∷ []) is
               ∙ counted_cells (results_of nb s.budget later cells) one cells (results_one_by_one nb s.budget later t) (one_each_kept nb s.budget later t)
               ∙ sym (ap (λ (a : Answered). a.parts) fit);
           newest = refl;

@@ -9,7 +9,7 @@ use Rattle.py_tree.specs.Trees.{Cell}
 use Rattle.py_tree.specs.View.{view_cells}
 use Rattle.py_tree.specs.declared.tree.CellCode.{CellCode}
 use Rattle.kernel.specs.Visit.{Visit, Gives, Takes, begun}
-use Rattle.kernel.specs.Visits.{Call, Deliver, Step, IsSolo, Leads, given_by, taken_by}
+use Rattle.kernel.specs.Calls.{Call, Deliver, Step, IsSolo, Leads, given_by, taken_by}
 use Rattle.kernel.specs.declared.answers.Delivered.TheVariants as delivered
 use Rattle.kernel.specs.declared.answers.Stepped.TheVariants as stepped
 
@@ -19,30 +19,30 @@ use Rattle.kernel.specs.declared.answers.Stepped.TheVariants as stepped
 record GoesOn (nb : List CellCode) (budget : ℕ) (sent : List (List ℕ)) (given : List Frame) (v after : Visit) (count count_after : ℕ) : Type 0 where
   messages : List Message
   are : AreMessages sent messages
-  frames : given ++ frames_in after.coming ≡ frames_in v.coming ++ solo_from (view_cells nb) budget v.state messages
+  frames : given ++ frames_in after.pending ≡ frames_in v.pending ++ solo_from (view_cells nb) budget v.state messages
   state : after.state ≡ state_after (view_cells nb) budget v.state messages
-  steps : count_after + cost_of_parts after.coming ≡ count + cost_of_parts v.coming + work_from (view_cells nb) budget v.state messages
+  steps : count_after + cost_of_parts after.pending ≡ count + cost_of_parts v.pending + work_from (view_cells nb) budget v.state messages
 
 -- where nothing is called
 at_end : (nb : List CellCode) (budget : ℕ) (v : Visit) (count : ℕ) → GoesOn nb budget [] [] v v count count
-at_end nb budget v count = record { messages = []; are = tt; frames = sym (append-nil (frames_in v.coming)); state = refl; steps = omega arith }
+at_end nb budget v count = record { messages = []; are = tt; frames = sym (append-nil (frames_in v.pending)); state = refl; steps = omega arith }
 
 -- a message is taken first
 after_taken : (nb : List CellCode) (budget : ℕ) (bytes : List ℕ) (m : Message) (sent : List (List ℕ)) (given : List Frame) (v w after : Visit) (count count_after : ℕ)
-    → v.nb ≡ nb → v.budget ≡ budget → v.coming ≡ [] → IsMessage bytes m → Takes m v w → GoesOn nb budget sent given w after count count_after
+    → v.nb ≡ nb → v.budget ≡ budget → v.pending ≡ [] → IsMessage bytes m → Takes m v w → GoesOn nb budget sent given w after count count_after
     → GoesOn nb budget (bytes ∷ sent) given v after count count_after
 after_taken nb budget bytes m sent given v w after count count_after same_nb same_budget none is takes on =
     let cells : List Cell = view_cells nb in
     let a : Answered = answer cells budget v.state m in
     let at : answer (view_cells v.nb) v.budget v.state m ≡ a = (λ i. answer (view_cells (same_nb i)) (same_budget i) v.state m) in
-    let parts : w.coming ≡ a.parts = takes.coming ∙ ap (λ (a : Answered). a.parts) at in
+    let parts : w.pending ≡ a.parts = takes.pending ∙ ap (λ (a : Answered). a.parts) at in
     let state : w.state ≡ a.state = takes.state ∙ ap (λ (a : Answered). a.state) at in
     let rest : List Part = parts_from cells budget a.state on.messages in
-    let frames : frames_in w.coming ++ solo_from cells budget w.state on.messages ≡ frames_in (a.parts ++ rest) =
+    let frames : frames_in w.pending ++ solo_from cells budget w.state on.messages ≡ frames_in (a.parts ++ rest) =
     (λ i. frames_in (parts i) ++ solo_from cells budget (state i) on.messages) ∙ sym (map-append (λ (p : Part). p.frame) a.parts rest) in
-    let before : frames_in v.coming ≡ [] = ap frames_in none in
-    let no_cost : cost_of_parts v.coming ≡ 0 = ap cost_of_parts none in
-    let cost : cost_of_parts w.coming ≡ cost_of_parts a.parts = ap cost_of_parts parts in
+    let before : frames_in v.pending ≡ [] = ap frames_in none in
+    let no_cost : cost_of_parts v.pending ≡ 0 = ap cost_of_parts none in
+    let cost : cost_of_parts w.pending ≡ cost_of_parts a.parts = ap cost_of_parts parts in
     let work : work_from cells budget w.state on.messages ≡ cost_of_parts rest = ap (λ s. work_from cells budget s on.messages) state in
     let all : cost_of_parts (a.parts ++ rest) ≡ cost_of_parts a.parts + cost_of_parts rest = sum_by-append (λ (p : Part). p.cost) a.parts rest in
     let steps = on.steps in
@@ -60,8 +60,8 @@ after_given : (nb : List CellCode) (budget : ℕ) (f : Frame) (sent : List (List
     → GoesOn nb budget sent (f ∷ given) v after count count_after
 after_given nb budget f sent given v w after count n count_after gives on =
     let cells : List Cell = view_cells nb in
-    let cost : cost_of_parts v.coming ≡ gives.cost + cost_of_parts w.coming =
-    ap cost_of_parts gives.coming ∙ sum_by-cons (λ (p : Part). p.cost) (record { frame = f; cost = gives.cost }) w.coming in
+    let cost : cost_of_parts v.pending ≡ gives.cost + cost_of_parts w.pending =
+    ap cost_of_parts gives.pending ∙ sum_by-cons (λ (p : Part). p.cost) (record { frame = f; cost = gives.cost }) w.pending in
     let work : work_from cells budget w.state on.messages ≡ work_from cells budget v.state on.messages =
     ap (λ s. work_from cells budget s on.messages) gives.state in
     let counted = gives.steps in
@@ -70,7 +70,7 @@ after_given nb budget f sent given v w after count n count_after gives on =
       messages = on.messages;
       are = on.are;
       frames = ap (λ fs. f ∷ fs) on.frames
-          ∙ sym (λ i. frames_in (gives.coming i) ++ solo_from cells budget (sym gives.state i) on.messages);
+          ∙ sym (λ i. frames_in (gives.pending i) ++ solo_from cells budget (sym gives.state i) on.messages);
       state = on.state ∙ ap (λ s. state_after cells budget s on.messages) gives.state;
       steps = omega arith;
     }

@@ -15,12 +15,12 @@ use Rattle.py_tree.specs.Trees.{Cell}
 use Rattle.py_tree.specs.View.{view_cell, view_cells}
 use Rattle.py_value.specs.Maps.{Map}
 use Rattle.py_value.specs.declared.types.Value.{Value}
-use Rattle.kernel.specs.Coming.{cells_of, count_of, left_of, parts_of}
+use Rattle.kernel.specs.Pending.{cells_of, count_of, left_of, parts_of}
 use Rattle.kernel.specs.KernelState.{IsKept, StandsBy, state_of, visit_of}
 use Rattle.kernel.specs.Visit.{Visit, IsWhole, Stands, newest_in}
-use Rattle.kernel.specs.declared.coming.Coming.{Coming}
-use Rattle.kernel.specs.declared.coming.Coming.TheVariants as coming
-use Rattle.kernel.specs.declared.kernel_state.KernelState.{KernelState}
+use Rattle.kernel.specs.declared.pending.Pending.{Pending}
+use Rattle.kernel.specs.declared.pending.Pending.TheVariants as pending
+use Rattle.kernel.specs.declared.state.KernelState.{KernelState}
 
 -- ---- what is to come
 
@@ -33,29 +33,29 @@ is_below n c (d ∷ ds) all on = ⊎_elim
     (or_cases (d == c) _ on)
 
 -- the parts are as many as are counted
-parts_counted : (nb : List Cell) (budget : ℕ) (ui : Map Value) (rest : Coming) → NoneCyclic nb → All (λ c. c < length nb) (left_of rest)
+parts_counted : (nb : List Cell) (budget : ℕ) (ui : Map Value) (rest : Pending) → NoneCyclic nb → All (λ c. c < length nb) (left_of rest)
     → length (parts_of nb budget ui rest) ≡ count_of rest
-parts_counted nb budget ui coming.Nothing free below = refl
-parts_counted nb budget ui (coming.Refusal why) free below = refl
-parts_counted nb budget ui (coming.Results cells taken) free below =
+parts_counted nb budget ui pending.Nothing free below = refl
+parts_counted nb budget ui (pending.Refusal why) free below = refl
+parts_counted nb budget ui (pending.Results cells taken) free below =
     let left : List ℕ = drop taken (cells_of cells) in
     length-append (flat_map (λ c. results_of nb budget ui (c ∷ [])) left) (at_no_cost (frame.Done (length (cells_of cells))) ∷ [])
     ∙ ap (λ n. n + 1) (one_each nb budget ui left (λ c on. free_is_listed nb free c (is_below (length nb) c left below on)) ∙ length-drop taken (cells_of cells))
 
 -- where no part is to come, no cell is left
-none_left : (nb : List Cell) (budget : ℕ) (ui : Map Value) (rest : Coming) → parts_of nb budget ui rest ≡ [] → left_of rest ≡ []
-none_left nb budget ui coming.Nothing none = refl
-none_left nb budget ui (coming.Refusal why) none = refl
-none_left nb budget ui (coming.Results cells taken) none =
+none_left : (nb : List Cell) (budget : ℕ) (ui : Map Value) (rest : Pending) → parts_of nb budget ui rest ≡ [] → left_of rest ≡ []
+none_left nb budget ui pending.Nothing none = refl
+none_left nb budget ui (pending.Refusal why) none = refl
+none_left nb budget ui (pending.Results cells taken) none =
     let results : List Part = flat_map (λ c. results_of nb budget ui (c ∷ [])) (drop taken (cells_of cells)) in
     let long = length-append results (at_no_cost (frame.Done (length (cells_of cells))) ∷ []) in
     let empty = ap length none in
     absurd (omega arith)
 
-pub kept_counted : (s : KernelState) → IsKept s → length (parts_of (view_cells s.notebook.now) s.budget s.present s.coming) ≡ count_of s.coming
+pub kept_counted : (s : KernelState) → IsKept s → length (parts_of (view_cells s.notebook.now) s.budget s.present s.pending) ≡ count_of s.pending
 kept_counted s kept =
-    parts_counted (view_cells s.notebook.now) s.budget s.present s.coming kept.free
-    (subst (λ n. All (λ c. c < n) (left_of s.coming)) (sym (length-map s.notebook.now view_cell)) kept.cells)
+    parts_counted (view_cells s.notebook.now) s.budget s.present s.pending kept.free
+    (subst (λ n. All (λ c. c < n) (left_of s.pending)) (sym (length-map s.notebook.now view_cell)) kept.cells)
 
 -- ---- what stands
 
@@ -63,7 +63,7 @@ before_by : (on : Bool) (s : KernelState) → StandsBy on s → state_of on s.pr
 before_by true s by e c = let bad : On s.present ≡ Before = e in absurd cc
 before_by false s by e c = by.newest c
 
-whole_by : (on spoiled : Bool) (s : KernelState) (ui : Map Value) → StandsBy on s → state_of on s.present ≡ On ui → left_of s.coming ≡ []
+whole_by : (on spoiled : Bool) (s : KernelState) (ui : Map Value) → StandsBy on s → state_of on s.present ≡ On ui → left_of s.pending ≡ []
     → IsWhole (visit_of spoiled s) ui
 whole_by true spoiled s ui by e none =
     let nb : List Cell = view_cells s.notebook.now in
@@ -79,14 +79,14 @@ stands_of spoiled s v is kept sound =
     let k : IsKept s = kept (ap (λ (v : Visit). v.spoiled) is ∙ sound) in
     subst Stands is (record {
       before = before_by s.on s k.stands;
-      on = λ ui e none. whole_by s.on spoiled s ui k.stands e (none_left (view_cells s.notebook.now) s.budget s.present s.coming none);
+      on = λ ui e none. whole_by s.on spoiled s ui k.stands e (none_left (view_cells s.notebook.now) s.budget s.present s.pending none);
     })
 
 pub stands_now : (s : KernelState) → IsKept s → Stands (visit_of false s)
 stands_now s kept = stands_of false s (visit_of false s) refl (λ sound. kept) refl
 
 pub pending_of : (spoiled : Bool) (s : KernelState) (v : Visit) (n : ℕ) → visit_of spoiled s ≡ v → (spoiled ≡ false → IsKept s) → v.spoiled ≡ false
-    → n ≡ count_of s.coming → n ≡ length v.coming
+    → n ≡ count_of s.pending → n ≡ length v.pending
 pending_of spoiled s v n is kept sound counted =
     let k : IsKept s = kept (ap (λ (v : Visit). v.spoiled) is ∙ sound) in
-    counted ∙ sym (kept_counted s k) ∙ ap (λ (v : Visit). length v.coming) is
+    counted ∙ sym (kept_counted s k) ∙ ap (λ (v : Visit). length v.pending) is

@@ -17,7 +17,7 @@ use Rattle.py_tree.specs.View.{view_cell, view_cells}
 use Rattle.py_tree.specs.declared.tree.CellCode.{CellCode}
 use Rattle.kernel.specs.KernelState.{outcome_at}
 use Rattle.kernel.specs.Visit.{newest_in}
-use Rattle.kernel.specs.declared.kernel_state.KernelState.{KernelState}
+use Rattle.kernel.specs.declared.state.KernelState.{KernelState}
 use Rattle.kernel.proofs.Bounds.{parents_below}
 
 -- the cell at a place, seen as pure data

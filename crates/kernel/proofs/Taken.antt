@@ -13,12 +13,12 @@ use Rattle.frames.specs.declared.frame.Frame.TheVariants as frame
 use Rattle.visit_meaning.proofs.AtKept.{none_kept}
 use Rattle.visit_meaning.proofs.Going.{Runs, going_opens}
 use Rattle.visit_meaning.proofs.ResultsOf.{all_results_one_by_one, one_each_all}
-use Rattle.kernel.specs.Coming.{cells_of}
+use Rattle.kernel.specs.Pending.{cells_of}
 use Rattle.kernel.specs.KernelState.{IsBefore, IsKept, StandsBy, state_of, visit_of}
 use Rattle.kernel.specs.Visit.{Takes, newest_in}
-use Rattle.kernel.specs.declared.coming.Cells.{Cells}
-use Rattle.kernel.specs.declared.coming.Coming.TheVariants as coming
-use Rattle.kernel.specs.declared.kernel_state.KernelState.{KernelState}
+use Rattle.kernel.specs.declared.pending.Cells.{Cells}
+use Rattle.kernel.specs.declared.pending.Pending.TheVariants as pending
+use Rattle.kernel.specs.declared.state.KernelState.{KernelState}
 use Rattle.kernel.proofs.Bounds.{order_below, order_length}
 
 pub runs_of : (s : KernelState) → IsKept s → Runs (view_cells s.notebook.now)
@@ -42,7 +42,7 @@ counted_cells parts f cells is long = ap (λ n. flat_map f cells ++ at_no_cost (
 -- ---- the opening
 
 abbrev pub opened : KernelState → Cells → KernelState
-opened s cells = record s { on = true; coming = coming.Results cells 0 }
+opened s cells = record s { on = true; pending = pending.Results cells 0 }
 
 before_by : (s : KernelState) → IsKept s → s.on ≡ false → IsBefore s
 before_by s kept off = subst (λ b. StandsBy b s) off kept.stands
@@ -74,7 +74,7 @@ opened_taken s cells kept off is =
     let none : s.present ≡ [] = (before_by s kept off).present in
     record {
       state = ap On none ∙ ap (λ b. (answer nb s.budget (state_of b s.present) Open).state) (sym off);
-      coming = ap (λ cs. flat_map (λ c. results_of nb s.budget s.present (c ∷ [])) cs ++ at_no_cost (frame.Done (length cs)) ∷ []) is
+      pending = ap (λ cs. flat_map (λ c. results_of nb s.budget s.present (c ∷ [])) cs ++ at_no_cost (frame.Done (length cs)) ∷ []) is
           ∙ counted_cells (results nb s.budget s.present) (λ c. results_of nb s.budget s.present (c ∷ [])) (order nb)
           (all_results_one_by_one nb s.budget s.present) (one_each_all nb s.budget s.present)
           ∙ ap (λ ui. counted (results nb s.budget ui)) none

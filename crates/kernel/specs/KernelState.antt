@@ -14,10 +14,10 @@ use Rattle.py_tree.specs.View.{view_cells}
 use Rattle.py_tree.specs.declared.tree.CellCode.{CellCode}
 use Rattle.py_value.specs.Maps.{Map, where_name}
 use Rattle.py_value.specs.declared.types.Value.{Value}
-use Rattle.kernel.specs.Coming.{left_of, parts_of, IsWithin}
+use Rattle.kernel.specs.Pending.{left_of, parts_of, IsWithin}
 use Rattle.kernel.specs.Visit.{Visit, newest_in}
-use Rattle.kernel.specs.declared.coming.Coming.TheVariants as coming
-use Rattle.kernel.specs.declared.kernel_state.KernelState.{KernelState}
+use Rattle.kernel.specs.declared.pending.Pending.TheVariants as pending
+use Rattle.kernel.specs.declared.state.KernelState.{KernelState}
 
 -- no name with a leading underscore is bound
 abbrev pub IsPlain : Env → Type 0
@@ -33,7 +33,7 @@ visit_of spoiled s = record {
   nb = s.notebook.now;
   budget = s.budget;
   state = state_of s.on s.present;
-  coming = parts_of (view_cells s.notebook.now) s.budget s.present s.coming;
+  pending = parts_of (view_cells s.notebook.now) s.budget s.present s.pending;
   env = s.env;
   newest = s.newest.items;
   spoiled = spoiled;
@@ -44,13 +44,13 @@ pub record IsBefore (s : KernelState) : Type 0 where
   pub env : s.env ≡ []
   pub present : s.present ≡ []
   pub newest : (c : ℕ) → newest_in s.newest.items c ≡ None
-  pub left : left_of s.coming ≡ []
+  pub left : left_of s.pending ≡ []
 
 -- From the opening on the bindings and the newest frames are those of the whole notebook with the present values, but at the cells
 -- whose results are still to come. No present value is an element.
 pub record IsAfter (s : KernelState) : Type 0 where
   pub values : HasNoElements s.present
-  pub going : Going (view_cells s.notebook.now) s.budget s.present (left_of s.coming) s.env (newest_in s.newest.items)
+  pub going : Going (view_cells s.notebook.now) s.budget s.present (left_of s.pending) s.env (newest_in s.newest.items)
 
 -- one of these, by whether the notebook is open
 abbrev pub StandsBy : Bool → KernelState → Type 0
@@ -64,8 +64,8 @@ pub record IsKept (s : KernelState) : Type 0 where
   pub free : NoneCyclic (view_cells s.notebook.now)
   pub count : length s.newest.items ≡ length s.notebook.now
   pub plain : IsPlain s.env
-  pub cells : All (λ c. c < length s.notebook.now) (left_of s.coming)
-  pub within : IsWithin s.coming
+  pub cells : All (λ c. c < length s.notebook.now) (left_of s.pending)
+  pub within : IsWithin s.pending
   pub stands : StandsBy s.on s
 
 -- what is kept at the beginning
@@ -76,7 +76,7 @@ pub record IsNew (nb : List CellCode) (budget : ℕ) (s : KernelState) : Type 0 
   pub present : s.present ≡ []
   pub env : s.env ≡ []
   pub newest : s.newest.items ≡ replicate (length nb) None
-  pub coming_is : s.coming ≡ coming.Nothing
+  pub pending_is : s.pending ≡ pending.Nothing
 
 -- the run of a cell from the bindings that are kept
 abbrev pub run_of : KernelState → Cell → Spending Flow

@@ -1,6 +1,6 @@
-pub mod Coming
+pub mod Calls
+pub mod CellRun
 pub mod KernelState
-pub mod Ran
-pub mod Read
+pub mod Message
+pub mod Pending
 pub mod Visit
-pub mod Visits

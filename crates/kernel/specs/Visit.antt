@@ -22,7 +22,7 @@ pub record Visit : Type 0 where
   pub nb : List CellCode
   pub budget : ℕ
   pub state : State
-  pub coming : List Part
+  pub pending : List Part
   pub env : Env
   pub newest : List (Option CellFrame)
   pub spoiled : Bool
@@ -33,7 +33,7 @@ newest_in newest c = slice_index_or newest c None
 
 -- a visit at its beginning
 abbrev pub begun : List CellCode → ℕ → Visit
-begun nb budget = record { nb = nb; budget = budget; state = Before; coming = []; env = []; newest = replicate (length nb) None; spoiled = false }
+begun nb budget = record { nb = nb; budget = budget; state = Before; pending = []; env = []; newest = replicate (length nb) None; spoiled = false }
 
 -- the present values of a state
 abbrev pub present_in : State → Map Value
@@ -49,13 +49,13 @@ pub record IsWhole (v : Visit) (ui : Map Value) : Type 0 where
 -- when the whole notebook runs from nothing.
 pub record Stands (v : Visit) : Type 0 where
   pub before : v.state ≡ Before → (c : ℕ) → newest_in v.newest c ≡ None
-  pub on : (ui : Map Value) → v.state ≡ On ui → v.coming ≡ [] → IsWhole v ui
+  pub on : (ui : Map Value) → v.state ≡ On ui → v.pending ≡ [] → IsWhole v ui
 
 -- A message is taken: the state and what is to come are those of its answer. No newest frame changes, and where the message is refused
 -- no binding does.
 pub record Takes (m : Message) (before after : Visit) : Type 0 where
   pub state : after.state ≡ (answer (view_cells before.nb) before.budget before.state m).state
-  pub coming : after.coming ≡ (answer (view_cells before.nb) before.budget before.state m).parts
+  pub pending : after.pending ≡ (answer (view_cells before.nb) before.budget before.state m).parts
   pub newest : after.newest ≡ before.newest
   pub kept : (why : Frame) → answer (view_cells before.nb) before.budget before.state m ≡ refused before.state why → after.env ≡ before.env
   pub nb : after.nb ≡ before.nb
@@ -64,8 +64,8 @@ pub record Takes (m : Message) (before after : Visit) : Type 0 where
 
 -- What a delivery does. While frames are to come it tells their number and changes nothing; else the message is taken.
 abbrev pub IsDelivery : List ℕ → Visit → Visit → Delivered → Type 0
-IsDelivery bytes before after (delivered.Busy pending) = (0 < length before.coming) × (pending ≡ length before.coming) × (after ≡ before)
-IsDelivery bytes before after delivered.Taken = (before.coming ≡ []) × ((m : Message) × IsMessage bytes m × Takes m before after)
+IsDelivery bytes before after (delivered.Busy pending) = (0 < length before.pending) × (pending ≡ length before.pending) × (after ≡ before)
+IsDelivery bytes before after delivered.Taken = (before.pending ≡ []) × ((m : Message) × IsMessage bytes m × Takes m before after)
 
 -- the newest frames after one that is given
 abbrev pub with_frame : Frame → List (Option CellFrame) → List (Option CellFrame)
@@ -80,7 +80,7 @@ is_result f = false
 -- cell; other newest frames stay, and so do the state and, unless a cell ran, the bindings.
 pub record Gives (f : Frame) (before after : Visit) (count count_after : ℕ) : Type 0 where
   pub cost : ℕ
-  pub coming : before.coming ≡ record { frame = f; cost = cost } ∷ after.coming
+  pub pending : before.pending ≡ record { frame = f; cost = cost } ∷ after.pending
   pub steps : count_after ≡ count + cost
   pub newest : after.newest ≡ with_frame f before.newest
   pub state : after.state ≡ before.state
@@ -91,5 +91,5 @@ pub record Gives (f : Frame) (before after : Visit) (count count_after : ℕ) : 
 
 -- What a step does: it gives the next frame, and changes nothing where none is to come.
 abbrev pub IsStep : Visit → Visit → ℕ → ℕ → Stepped → Type 0
-IsStep before after count count_after stepped.Idle = (before.coming ≡ []) × (after ≡ before) × (count_after ≡ count)
+IsStep before after count count_after stepped.Idle = (before.pending ≡ []) × (after ≡ before) × (count_after ≡ count)
 IsStep before after count count_after (stepped.Frame f) = Gives f before after count count_after

@@ -1,6 +1,6 @@
 // The results of cells.
 ghost use Rattle.std.specs.Prelude.{◌≡◌, IfOk, option_and_then};
-ghost use Rattle.kernel.specs.Ran.{error_after, frame_after};
+ghost use Rattle.kernel.specs.CellRun.{error_after, frame_after};
 ghost use Rattle.visit_meaning.specs.Whole as whole;
 ghost use Rattle.py_value.specs.Texts.{str_of};
 ghost use Rattle.py_value.specs.View.{data_of};

@@ -6,7 +6,7 @@ ghost use Rattle.visit_meaning.specs.Runnable.{Runnable};
 ghost use Rattle.py_tree.specs.View.{view_cells};
 
 use crate::answers::{Delivered, Stepped};
-use crate::kernel_state::{KernelState, new_state};
+use crate::state::KernelState;
 use cell_graph::Notebook;
 use frames::CellFrame;
 use py_eval::Steps;
@@ -44,18 +44,18 @@ impl<'n> Model for Kernel<'n> {
     ghost invariant = { λ k. k.spoiled ≡ false → IsKept k.state };
 }
 
-/// A session of a notebook that isn't open yet. Each run of a cell has this budget of steps.
-pub fn open<'n>(alloc: Global, notebook: &'n Notebook, budget: u64) -> Result<Kernel<'n>, Memory>
-    requires { Runnable (view_cells notebook.now) }
-    ensures { IfOk result (λ kernel. kernel ≡ begun notebook.now budget) }
-{
-    Ok(Kernel {
-        state: new_state(alloc, notebook, budget)?,
-        spoiled: false,
-    })
-}
-
 impl<'n> Kernel<'n> {
+    /// A session of a notebook that isn't open yet. Each run of a cell has this budget of steps.
+    pub fn open(alloc: Global, notebook: &'n Notebook, budget: u64) -> Result<Kernel<'n>, Memory>
+        requires { Runnable (view_cells notebook.now) }
+        ensures { IfOk result (λ kernel. kernel ≡ begun notebook.now budget) }
+    {
+        Ok(Kernel {
+            state: KernelState::new(alloc, notebook, budget)?,
+            spoiled: false,
+        })
+    }
+
     /// Takes a message of the visitor, whose answer is then to come. It is `Busy` where frames of an earlier answer are. Bytes that
     /// are no message are answered with that refusal.
     pub fn deliver(&mut self, alloc: Global, bytes: &[u8]) -> Result<Delivered, Memory>
@@ -69,7 +69,7 @@ impl<'n> Kernel<'n> {
         if self.spoiled {
             return Err(Memory);
         }
-        let pending = self.state.coming.count();
+        let pending = self.state.pending.count();
         if pending > 0 {
             return Ok(Delivered::Busy { pending });
         }
@@ -89,7 +89,7 @@ impl<'n> Kernel<'n> {
         ensures steps { IfOk result
             (λ stepped. IsStep self.old self.new steps.old steps.new stepped) }
         ensures stands { OnOk result (Stands self.new) }
-        ensures idle { self.old.spoiled ≡ false → self.old.coming ≡ [] → IsOk result }
+        ensures idle { self.old.spoiled ≡ false → self.old.pending ≡ [] → IsOk result }
         ensures spoiled { self.old.spoiled ≡ true → IsErr result }
         ensures spoils { OnErr result (self.new.spoiled ≡ true) }
         ensures newest { OnErr result (self.new.newest ≡ self.old.newest) }
@@ -124,12 +124,12 @@ impl<'n> Kernel<'n> {
 
     /// How many frames are to come; none where memory was wanting.
     pub fn pending(&self) -> u32
-        ensures count { self.now.spoiled ≡ false → result ≡ length self.now.coming }
+        ensures count { self.now.spoiled ≡ false → result ≡ length self.now.pending }
         ensures spoiled { self.now.spoiled ≡ true → result ≡ 0 }
     {
         if self.spoiled {
             return 0;
         }
-        self.state.coming.count()
+        self.state.pending.count()
     }
 }

@@ -3,7 +3,7 @@ ghost use Rattle.std.specs.Prelude.{◌≡◌, ℕ, List, [], ◌∷◌, sum};
 ghost use Rattle.visit_meaning.specs.Answer.{Open, work};
 ghost use Rattle.visit_meaning.specs.Whole.{whole};
 ghost use Rattle.kernel.specs.Visit.{Visit, begun};
-ghost use Rattle.kernel.specs.Visits.{Call, Leads, IsSolo, taken_by, given_by};
+ghost use Rattle.kernel.specs.Calls.{Call, Leads, IsSolo, taken_by, given_by};
 ghost use Rattle.py_tree.specs.Trees.{Cell};
 ghost use Rattle.py_tree.specs.declared.tree.CellCode.{CellCode};
 

@@ -3,15 +3,12 @@
 
 mod answers;
 mod cell_frame;
-mod cell_run;
-mod coming;
 mod kernel;
-mod kernel_state;
 pub mod laws;
 mod message;
-mod stepping;
-mod taking;
+mod pending;
+mod state;
 
 pub use answers::{Delivered, Stepped};
-pub use kernel::{Kernel, open};
+pub use kernel::Kernel;
 pub use message::{OPEN_MESSAGE, read_text};

@@ -1,6 +1,6 @@
 // Messages of a visitor.
 ghost use Rattle.std.specs.Prelude.{◌≡◌, option_map};
-ghost use Rattle.kernel.specs.Read.{ReadsAs, ReadsText, Reads, IsNumber, AreParts, IsSet, natural_in, negative_in};
+ghost use Rattle.kernel.specs.Message.{ReadsAs, ReadsText, Reads, IsNumber, AreParts, IsSet, natural_in, negative_in};
 
 use py_tree::{is_name, number};
 

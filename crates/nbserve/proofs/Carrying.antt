@@ -9,15 +9,15 @@ use Rattle.program_meaning.specs.Program as program
 use Rattle.program_meaning.specs.Program.{Comes, Command, Play, command_of, notebook_of, AreRead, FailsFirst, IsLoaded, Refusal, read_of, refusal_text}
 use Rattle.program_meaning.specs.Scripts.{FaultAt, fault_text}
 use Rattle.py_tree.specs.Trees.{Cell}
-use Rattle.nbserve.specs.Carried.{IsPlayed}
+use Rattle.nbserve.specs.Execution.{IsPlayed}
 use Rattle.script_run.specs.Cut as cut
 use Rattle.script_run.specs.Cut.{IsCutOff}
-use Rattle.nbserve.specs.Refused.{refusal_of}
-use Rattle.nbserve.specs.Stops.{IsStopped, IsUnloaded, IsUnplayed, Why}
-use Rattle.nbserve.specs.Wrote as wrote
-use Rattle.nbserve.specs.Wrote.{Ended}
-use Rattle.nbserve.specs.declared.stop.Stop.{Stop}
-use Rattle.nbserve.specs.declared.stop.Stop.TheVariants as stop
+use Rattle.nbserve.specs.Refusal.{refusal_of}
+use Rattle.nbserve.specs.CommandFault.{IsStopped, IsUnloaded, IsUnplayed, Why}
+use Rattle.nbserve.specs.Output as wrote
+use Rattle.nbserve.specs.Output.{Ended}
+use Rattle.nbserve.specs.declared.command_fault.CommandFault.{CommandFault}
+use Rattle.nbserve.specs.declared.command_fault.CommandFault.TheVariants as stop
 
 -- a text after one that was written
 pub ended_after : (text last : List ℕ) (result : ℕ) (before between now : Option (List ℕ)) (a b d : ℕ) → Took before between text → a ≤ b
@@ -43,7 +43,7 @@ stops : (holds : List ℕ → Option (Option (List ℕ))) (failed : Type 0) (wor
     → (unread → Comes holds failed words 3 (codes "read fault\n"))
     → ((why : Refusal) → refuses why → Comes holds failed words 1 (refusal_text why))
     → ((line : ℕ) → lines line → Comes holds failed words 6 (fault_text line))
-    → (why : Stop) → Why unread refuses lines why → IsStopped holds failed words why
+    → (why : CommandFault) → Why unread refuses lines why → IsStopped holds failed words why
 stops holds failed words unread refuses lines read refused script stop.Usage is = absurd is
 stops holds failed words unread refuses lines read refused script stop.Unread is = inr (read is)
 stops holds failed words unread refuses lines read refused script (stop.Refused why) is = inr (refused (refusal_of why) is)
@@ -51,7 +51,7 @@ stops holds failed words unread refuses lines read refused script (stop.NoScript
 stops holds failed words unread refuses lines read refused script stop.Memory is = inl refl
 
 -- a notebook that isn't loaded stops the run
-pub unloaded_stops : (holds : List ℕ → Option (Option (List ℕ))) (failed : Type 0) (words : List (List ℕ)) (command : Command) (why : Stop)
+pub unloaded_stops : (holds : List ℕ → Option (Option (List ℕ))) (failed : Type 0) (words : List (List ℕ)) (command : Command) (why : CommandFault)
     → command_of words ≡ Some command → IsUnloaded holds failed (notebook_of command) why → IsStopped holds failed words why
 unloaded_stops holds failed words command why asked is =
     stops holds failed words failed (λ refusal. (bytes : List ℕ) × AreRead holds (notebook_of command) bytes × FailsFirst bytes refusal) (λ line. ⊥)
@@ -64,7 +64,7 @@ same_read : (holds later : List ℕ → Option (Option (List ℕ))) (file bytes 
 same_read holds later file bytes same r = subst (λ o. IfSome o (λ told. (all : List ℕ) × (told ≡ Some all) × (bytes ≡ read_of all))) same r
 
 -- so does a script that isn't played,
-pub unplayed_stops : (holds later : List ℕ → Option (Option (List ℕ))) (a b d : ℕ) (words : List (List ℕ)) (file script : List ℕ) (nb : List Cell) (why : Stop)
+pub unplayed_stops : (holds later : List ℕ → Option (Option (List ℕ))) (a b d : ℕ) (words : List (List ℕ)) (file script : List ℕ) (nb : List Cell) (why : CommandFault)
     → command_of words ≡ Some (Play file script) → IsLoaded holds file nb → later script ≡ holds script → a ≤ b → IsUnplayed later (Rose b d) script why
     → IsStopped holds (Rose a d) words why
 unplayed_stops holds later a b d words file script nb why asked loaded same le is =

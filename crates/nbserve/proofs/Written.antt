@@ -11,20 +11,20 @@ use Rattle.program_meaning.specs.Program.{Comes, Command, Once, Play, command_of
 use Rattle.program_meaning.specs.Scripts.{Script, IsScript, IsNoScript, FaultAt, messages_of, script_text}
 use Rattle.py_tree.specs.Trees.{Cell}
 use Rattle.program_meaning.proofs.ScriptTexts as scripts_read
-use Rattle.nbserve.specs.Carried as carried
-use Rattle.nbserve.specs.Carried.{Carried}
+use Rattle.nbserve.specs.Execution as carried
+use Rattle.nbserve.specs.Execution.{Carried}
 use Rattle.script_run.specs.Cut.{IsCutOff}
-use Rattle.nbserve.specs.Stops.{IsStopped, status_of, stop_line}
+use Rattle.nbserve.specs.CommandFault.{IsStopped, status_of, stop_line}
 use Rattle.nbserve.specs.Works as works
 use Rattle.nbserve.specs.Works.{Works, label_of, last_of}
-use Rattle.nbserve.specs.Wrote as wrote
-use Rattle.nbserve.specs.Wrote.{Wrote, Ended}
-use Rattle.nbserve.specs.declared.stop.Stop.{Stop}
-use Rattle.nbserve.specs.declared.stop.Stop.TheVariants as stop
+use Rattle.nbserve.specs.Output as wrote
+use Rattle.nbserve.specs.Output.{Wrote, Ended}
+use Rattle.nbserve.specs.declared.command_fault.CommandFault.{CommandFault}
+use Rattle.nbserve.specs.declared.command_fault.CommandFault.TheVariants as stop
 
 -- ---- where the run is stopped
 
-pub stopped_wrote : (holds : List ℕ → Option (Option (List ℕ))) (unread unwritten : Type 0) (words : List (List ℕ)) (why : Stop) (result : ℕ) (before now : Option (List ℕ)) → IsStopped holds unread words why → Ended (status_of why) (stop_line why) result before now unwritten → (why ≡ stop.Memory → (result ≡ 5) × Took before now []) → Wrote holds unread unwritten words result before now
+pub stopped_wrote : (holds : List ℕ → Option (Option (List ℕ))) (unread unwritten : Type 0) (words : List (List ℕ)) (why : CommandFault) (result : ℕ) (before now : Option (List ℕ)) → IsStopped holds unread words why → Ended (status_of why) (stop_line why) result before now unwritten → (why ≡ stop.Memory → (result ≡ 5) × Took before now []) → Wrote holds unread unwritten words result before now
 stopped_wrote holds unread unwritten words why result before now (inl memory) ended wanting = let none = wanting memory in wrote.wanting none.0 none.1
 stopped_wrote holds unread unwritten words why result before now (inr comes) ended wanting = wrote.ended (status_of why) (stop_line why) comes ended
 
@@ -34,14 +34,14 @@ not_done status text result before now unwritten other (wrote.whole e took) zero
 not_done status text result before now unwritten other (wrote.cut e why part) zero = omega (arith, e, zero)
 not_done status text result before now unwritten other (wrote.unfinished e part) zero = omega (arith, e, zero)
 
-no_stop_is_done : (why : Stop) → status_of why ≡ 0 → ⊥
+no_stop_is_done : (why : CommandFault) → status_of why ≡ 0 → ⊥
 no_stop_is_done stop.Usage e = omega arith
 no_stop_is_done stop.Unread e = omega arith
 no_stop_is_done (stop.Refused why) e = omega arith
 no_stop_is_done (stop.NoScript line) e = omega arith
 no_stop_is_done stop.Memory e = omega arith
 
-pub stopped_not_done : (why : Stop) (result : ℕ) (before now : Option (List ℕ)) (unwritten : Type 0) → Ended (status_of why) (stop_line why) result before now unwritten → result ≡ 0 → ⊥
+pub stopped_not_done : (why : CommandFault) (result : ℕ) (before now : Option (List ℕ)) (unwritten : Type 0) → Ended (status_of why) (stop_line why) result before now unwritten → result ≡ 0 → ⊥
 stopped_not_done why result before now unwritten = not_done (status_of why) (stop_line why) result before now unwritten (no_stop_is_done why)
 
 -- ---- bytes of files that are told
@@ -197,7 +197,7 @@ module _ (holds : List ℕ → Option (Option (List ℕ))) (unread : Type 0) (wo
   comes_no_script (program.no_script f s bytes n line a l r stops e t) file script all shown nb asked told ok there never = inl e
 
 -- where a command that can be carried out is stopped and no read failed, memory is wanting, and no write failed
-pub stopped_not_cut : (holds : List ℕ → Option (Option (List ℕ))) (unread : Type 0) (words : List (List ℕ)) (why : Stop) (result : ℕ) → IsStopped holds unread words why → (why ≡ stop.Memory → result ≡ 5) → result ≡ 4 → (nb : List Cell) (ms : List Message) → Works holds words nb ms → (unread → ⊥) → ⊥
+pub stopped_not_cut : (holds : List ℕ → Option (Option (List ℕ))) (unread : Type 0) (words : List (List ℕ)) (why : CommandFault) (result : ℕ) → IsStopped holds unread words why → (why ≡ stop.Memory → result ≡ 5) → result ≡ 4 → (nb : List Cell) (ms : List Message) → Works holds words nb ms → (unread → ⊥) → ⊥
 stopped_not_cut holds unread words why result (inl memory) wanting four nb ms can read = let five = wanting memory in omega (arith, four, five)
 stopped_not_cut holds unread words why result (inr comes) wanting four nb ms can read =
     ⊎_elim (no_stop_is_done why) (λ three. read (comes_read holds unread words (status_of why) (stop_line why) comes three))

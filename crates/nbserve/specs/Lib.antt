@@ -1,6 +1,6 @@
-pub mod Asked
-pub mod Carried
-pub mod Refused
-pub mod Stops
+pub mod Command
+pub mod CommandFault
+pub mod Execution
+pub mod Output
+pub mod Refusal
 pub mod Works
-pub mod Wrote

@@ -3,11 +3,11 @@ ghost use Rattle.std.specs.Prelude.{◌≡◌, ◌<◌, IfOk};
 ghost use Rattle.visit_meaning.specs.Runnable.{Runnable};
 ghost use Rattle.py_tree.specs.View.{view_cells};
 
-use crate::loading::load;
-use crate::stop::Stop;
+use crate::loader::load;
+use crate::command_fault::CommandFault;
 use cell_graph::Notebook;
 use frames::CellFrame;
-use kernel::{Delivered, Kernel, Stepped, open};
+use kernel::{Delivered, Kernel, Stepped};
 use py_eval::Steps;
 use py_value::{Memory, Value};
 use script_run::set_line;
@@ -48,7 +48,7 @@ enum Call<'a> {
 
 use Call::{Deliver, Newest, Pending, Present, Step};
 
-fn slider(alloc: Global) -> Result<Notebook, Stop>
+fn slider(alloc: Global) -> Result<Notebook, CommandFault>
     ensures { IfOk result (λ nb. Runnable (view_cells nb)) }
 {
     load(alloc, SLIDER)
@@ -135,7 +135,7 @@ fn calls_lines<L: Ledger>(
     requires runnable { Runnable (view_cells notebook.now) }
     requires new { (blank.name ≡ L.name) × (blank.parts ≡ L.parts) × (0 < blank.parts) }
 {
-    let mut kernel = open(alloc, notebook, BUDGET)?;
+    let mut kernel = Kernel::open(alloc, notebook, BUDGET)?;
     let mut steps = Steps::<L>::new(blank);
     let mut lines = Vec::new(alloc);
     for call in calls {

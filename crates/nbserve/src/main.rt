@@ -6,13 +6,13 @@ ghost use Rattle.std.specs.Prelude.{◌≡◌, ◌<◌};
 #[cfg(test)]
 mod kernel_tests;
 pub mod laws;
-mod loading;
+mod loader;
 mod refusal;
-mod stop;
+mod command_fault;
 #[cfg(test)]
 mod tests;
 mod top;
-mod words;
+mod command;
 
 use link_io::{RealFiles, RealOut};
 use py_eval::Steps;
@@ -21,7 +21,7 @@ use std::io::ErrorKind;
 use std::marker::Brand;
 use std::process::ExitCode;
 use std::sync::ledger::{Blank, Ledger};
-use stop::WANT_OF_MEMORY;
+use command_fault::WANT_OF_MEMORY;
 use top::run_words;
 
 // Runs the program over the files of the system and the standard output. Nothing reads the count of its steps.

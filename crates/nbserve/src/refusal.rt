@@ -1,6 +1,6 @@
 // Why a notebook is refused, and the line that says so.
 ghost use Rattle.std.specs.Prelude.{◌≡◌, ◌++◌, IfOk, OnOk, codes, decimal, flat_map, string_bytes};
-ghost use Rattle.nbserve.specs.Refused.{refusal_of};
+ghost use Rattle.nbserve.specs.Refusal.{refusal_of};
 ghost use Rattle.program_meaning.specs.Program as program;
 
 use cell_graph::CellList;

@@ -1,11 +1,11 @@
 // The top call.
 ghost use Rattle.std.specs.Prelude.{◌≡◌, ◌⊎◌, ℕ, ◌+◌, ◌≤◌, IfErr, IfOk, List, map, OnErr, string_bytes, Some, None};
 ghost use Rattle.link_io.specs.Outside.{Rose};
-ghost use Rattle.nbserve.specs.Carried.{Carried, IsDone, IsPlayed};
+ghost use Rattle.nbserve.specs.Execution.{Carried, IsDone, IsPlayed};
 ghost use Rattle.script_run.specs.Cut.{IsCutOff};
-ghost use Rattle.nbserve.specs.Stops.{IsStopped, IsUnloaded, IsUnplayed, IsUnread};
+ghost use Rattle.nbserve.specs.CommandFault.{IsStopped, IsUnloaded, IsUnplayed, IsUnread};
 ghost use Rattle.nbserve.specs.Works.{Works, label_of, last_of};
-ghost use Rattle.nbserve.specs.Wrote.{Wrote};
+ghost use Rattle.nbserve.specs.Output.{Wrote};
 ghost use Rattle.visit_meaning.specs.Answer.{Before, Message, parts_from, work};
 ghost use Rattle.visit_meaning.specs.Messages.{AreMessages};
 ghost use Rattle.program_meaning.specs.Program as program;
@@ -15,9 +15,9 @@ ghost use Rattle.program_meaning.specs.Scripts.{IsNoScript};
 ghost use Rattle.py_tree.specs.Trees.{Cell};
 ghost use Rattle.py_tree.specs.View.{view_cells};
 
-use crate::loading::load;
-use crate::stop::{DONE, Stop, WANT_OF_MEMORY, WRITE_FAULT, end_stopped, end_with};
-use crate::words::{Command, read_command};
+use crate::loader::load;
+use crate::command_fault::{DONE, CommandFault, WANT_OF_MEMORY, WRITE_FAULT, end_stopped, end_with};
+use crate::command::{Command, read_command};
 use cell_graph::Notebook;
 use kernel::OPEN_MESSAGE;
 use link_io::{Files, ReadFault, Sink, read_file};
@@ -37,7 +37,7 @@ const VISITOR_LABEL: &[u8] = b"1 ";
 const LAST_LINE: &[u8] = b"end runs 0 hits 0\n";
 
 // The bytes of a file, or one more than the limit where it has more.
-fn bytes_in<F: Files>(alloc: Global, files: &mut F, file: &str) -> Result<Vec<u8>, Stop>
+fn bytes_in<F: Files>(alloc: Global, files: &mut F, file: &str) -> Result<Vec<u8>, CommandFault>
     ensures read { IfOk result (λ bytes. AreRead (F.holds files.old) file.now bytes.items) }
     ensures unread { IfErr result
         (λ why. IsUnread why (Rose (F.faults files.old) (F.faults files.new))) }
@@ -46,13 +46,13 @@ fn bytes_in<F: Files>(alloc: Global, files: &mut F, file: &str) -> Result<Vec<u8
 {
     match read_file(alloc, files, file, BYTE_LIMIT as u64) {
         Ok(bytes) => Ok(bytes),
-        Err(ReadFault::Failed) => Err(Stop::Unread),
-        Err(ReadFault::Memory) => Err(Stop::Memory),
+        Err(ReadFault::Failed) => Err(CommandFault::Unread),
+        Err(ReadFault::Memory) => Err(CommandFault::Memory),
     }
 }
 
 // The notebook of a file.
-fn notebook_in<F: Files>(alloc: Global, files: &mut F, file: &str) -> Result<Notebook, Stop>
+fn notebook_in<F: Files>(alloc: Global, files: &mut F, file: &str) -> Result<Notebook, CommandFault>
     ensures loaded { IfOk result (λ nb. IsLoaded (F.holds files.old) file.now (view_cells nb)) }
     ensures unloaded { IfErr result
         (λ why. IsUnloaded (F.holds files.old)
@@ -95,7 +95,7 @@ fn perform_script<F: Files, O: Sink, L: Ledger>(
     files: &mut F,
     out: &mut O,
     steps: &mut Steps<L>,
-) -> Result<u8, Stop>
+) -> Result<u8, CommandFault>
     requires { Runnable (view_cells notebook.now) }
     ensures played { IfOk result
         (λ status. IsPlayed (F.holds files.old) file.now (view_cells notebook.now) status
@@ -128,7 +128,7 @@ fn carry_out<F: Files, O: Sink, L: Ledger>(
     files: &mut F,
     out: &mut O,
     steps: &mut Steps<L>,
-) -> Result<u8, Stop>
+) -> Result<u8, CommandFault>
     ensures carried { IfOk result
         (λ status. Carried (F.holds files.old) (map string_bytes words.now) status
         (O.taken out.old) (O.taken out.new)
@@ -140,7 +140,7 @@ fn carry_out<F: Files, O: Sink, L: Ledger>(
     ensures still { OnErr result (steps.new ≡ steps.old) }
 {
     let Some(command) = read_command(words) else {
-        return Err(Stop::Usage);
+        return Err(CommandFault::Usage);
     };
     let notebook = notebook_in(alloc, files, command.notebook())?;
     match command {

@@ -86,7 +86,7 @@ cut_behind {label = label} {mid = mid} given parts more all before now count_at 
 
 pub record IsGiven (label : List ℕ) (before : Option (List ℕ)) (v : Visit) (count_at : ℕ) (now : Option (List ℕ)) (w : Visit) (count : ℕ) : Type 0 where
   pub given : List Part
-  pub are : given ++ w.coming ≡ v.coming
+  pub are : given ++ w.pending ≡ v.pending
   pub took : Took before now (lines_of label given)
   pub counted : count ≡ count_at + cost_of_parts given
   pub state : w.state ≡ v.state
@@ -107,18 +107,18 @@ given_none label before v count_at = record {
 
 -- the lines so far begin those of all
 pub given_begins : {label : List ℕ} {before : Option (List ℕ)} {v : Visit} {count_at : ℕ} {now : Option (List ℕ)} {w : Visit} {count : ℕ}
-    → IsGiven label before v count_at now w count → TookPart before now (lines_of label v.coming)
+    → IsGiven label before v count_at now w count → TookPart before now (lines_of label v.pending)
 given_begins {label = label} {before = before} {v = v} {now = now} {w = w} g =
-    part_of_lines label g.given w.coming v.coming before now g.are (part_whole before now (lines_of label g.given) g.took)
+    part_of_lines label g.given w.pending v.pending before now g.are (part_whole before now (lines_of label g.given) g.took)
 
 -- the part of a frame that is given
 abbrev part_of : {w next : Visit} {count count_next : ℕ} (f : Frame) → Gives f w next count count_next → Part
 part_of f gives = record { frame = f; cost = gives.cost }
 
 are_next : {w next : Visit} {count count_next : ℕ} (v : Visit) (f : Frame) (given : List Part) (gives : Gives f w next count count_next)
-    → given ++ w.coming ≡ v.coming → (given ++ part_of f gives ∷ []) ++ next.coming ≡ v.coming
+    → given ++ w.pending ≡ v.pending → (given ++ part_of f gives ∷ []) ++ next.pending ≡ v.pending
 are_next {next = next} v f given gives are =
-    append_assoc given (part_of f gives ∷ []) next.coming ∙ ap (λ ps. given ++ ps) (sym gives.coming) ∙ are
+    append_assoc given (part_of f gives ∷ []) next.pending ∙ ap (λ ps. given ++ ps) (sym gives.pending) ∙ are
 
 -- one more
 pub given_next : {label : List ℕ} {before : Option (List ℕ)} {v : Visit} {count_at : ℕ} {now : Option (List ℕ)} {w : Visit} {count : ℕ}
@@ -143,19 +143,19 @@ given_next {label = label} {before = before} {v = v} {count_at = count_at} {now 
 -- a beginning of one more
 pub given_cut : {label : List ℕ} {before : Option (List ℕ)} {v : Visit} {count_at : ℕ} {now : Option (List ℕ)} {w : Visit} {count : ℕ}
     → (f : Frame) (next : Visit) (count_next : ℕ) (after : Option (List ℕ)) → IsGiven label before v count_at now w count
-    → Gives f w next count count_next → TookPart now after (line_of label f) → IsCut label v.coming before after count_at count_next
+    → Gives f w next count count_next → TookPart now after (line_of label f) → IsCut label v.pending before after count_at count_next
 given_cut {label = label} {before = before} {v = v} {count_at = count_at} {now = now} {count = count} f next count_next after g gives part =
     let p : Part = part_of f gives in
-    cut_behind g.given (p ∷ []) next.coming v.coming before after count_at count_next (are_next v f g.given gives g.are) g.took g.counted
+    cut_behind g.given (p ∷ []) next.pending v.pending before after count_at count_next (are_next v f g.given gives g.are) g.took g.counted
     (cut_here label p now after count count_next gives.steps part)
 
 -- so the lines of all begin like that
 pub given_part : {label : List ℕ} {before : Option (List ℕ)} {v : Visit} {count_at : ℕ} {now : Option (List ℕ)} {w : Visit} {count : ℕ}
     → (f : Frame) (next : Visit) (count_next : ℕ) (after : Option (List ℕ)) → IsGiven label before v count_at now w count
-    → Gives f w next count count_next → TookPart now after (line_of label f) → TookPart before after (lines_of label v.coming)
+    → Gives f w next count count_next → TookPart now after (line_of label f) → TookPart before after (lines_of label v.pending)
 given_part {label = label} {before = before} {v = v} {now = now} f next count_next after g gives part =
     let p : Part = part_of f gives in
     let line : line_of label f ≡ lines_of label (p ∷ []) = sym (append-nil (line_of label f)) in
-    part_of_lines label (g.given ++ p ∷ []) next.coming v.coming before after (are_next v f g.given gives g.are)
+    part_of_lines label (g.given ++ p ∷ []) next.pending v.pending before after (are_next v f g.given gives g.are)
     (subst (TookPart before after) (sym (lines_append label g.given (p ∷ [])))
     (took_part before now after (lines_of label g.given) (lines_of label (p ∷ [])) g.took (subst (TookPart now after) line part)))

@@ -69,7 +69,7 @@ parts_begin nb budget done left ks ms a b =
     (later, sym (ap (parts_from nb budget Before) rest.1 ∙ parts_append nb budget Before ks rest.0))
 
 -- a message that is taken
-taken_of : (bytes : List ℕ) (v w : Visit) (d : Delivered) → v.coming ≡ [] → IsDelivery bytes v w d → (m : Message) × IsMessage bytes m × Takes m v w
+taken_of : (bytes : List ℕ) (v w : Visit) (d : Delivered) → v.pending ≡ [] → IsDelivery bytes v w d → (m : Message) × IsMessage bytes m × Takes m v w
 taken_of bytes v w (delivered.Busy pending) none does = let empty = ap length none in let some = does.0 in absurd (omega arith)
 taken_of bytes v w delivered.Taken none does = does.1
 
@@ -82,14 +82,14 @@ pub record IsPlayed (nb : List CellCode) (budget : ℕ) (sent : List (List ℕ))
   pub given : parts ≡ parts_from (view_cells nb) budget Before messages
   pub steps : count ≡ count_at + cost_of_parts parts
   pub state : v.state ≡ state_after (view_cells nb) budget Before messages
-  pub over : v.coming ≡ []
+  pub over : v.pending ≡ []
   pub nb_is : v.nb ≡ nb
   pub budget_is : v.budget ≡ budget
 
 -- what the parts of an answer change, once all are given
 pub record IsDrained (w : Visit) (count : ℕ) (after : Visit) (count_after : ℕ) : Type 0 where
-  pub steps : count_after ≡ count + cost_of_parts w.coming
-  pub over : after.coming ≡ []
+  pub steps : count_after ≡ count + cost_of_parts w.pending
+  pub over : after.pending ≡ []
   pub state : after.state ≡ w.state
   pub nb : after.nb ≡ w.nb
   pub budget : after.budget ≡ w.budget
@@ -97,7 +97,7 @@ pub record IsDrained (w : Visit) (count : ℕ) (after : Visit) (count_after : �
 played_next : {nb : List CellCode} {budget : ℕ} {sent : List (List ℕ)} {count_at : ℕ} {parts : List Part} {v : Visit} {count : ℕ}
     → (bytes : List ℕ) (d : Delivered) (w after : Visit) (count_after : ℕ)
     → IsPlayed nb budget sent count_at parts v count → IsDelivery bytes v w d → IsDrained w count after count_after
-    → IsPlayed nb budget (sent ++ bytes ∷ []) count_at (parts ++ w.coming) after count_after
+    → IsPlayed nb budget (sent ++ bytes ∷ []) count_at (parts ++ w.pending) after count_after
 played_next {nb = nb} {budget = budget} {sent = sent} {count_at = count_at} {parts = parts} {v = v} bytes d w after count_after p does drained =
     let cells : List Cell = view_cells nb in
     let ms : List Message = p.messages in
@@ -105,13 +105,13 @@ played_next {nb = nb} {budget = budget} {sent = sent} {count_at = count_at} {par
     let m : Message = got.0 in
     let at : answer (view_cells v.nb) v.budget v.state m ≡ answer cells budget (state_after cells budget Before ms) m =
     (λ i. answer (view_cells (p.nb_is i)) (p.budget_is i) (p.state i) m) in
-    let costs : cost_of_parts (parts ++ w.coming) ≡ cost_of_parts parts + cost_of_parts w.coming = costs_append parts w.coming in
+    let costs : cost_of_parts (parts ++ w.pending) ≡ cost_of_parts parts + cost_of_parts w.pending = costs_append parts w.pending in
     let before = p.steps in
     let now = drained.steps in
     record {
       messages = ms ++ m ∷ [];
       are = are_more sent ms bytes m p.are got.1;
-      given = ap (λ ps. ps ++ w.coming) p.given ∙ ap (λ ps. parts_from cells budget Before ms ++ ps) (got.2.coming ∙ (λ i. (at i).parts))
+      given = ap (λ ps. ps ++ w.pending) p.given ∙ ap (λ ps. parts_from cells budget Before ms ++ ps) (got.2.pending ∙ (λ i. (at i).parts))
           ∙ sym (parts_more cells budget Before ms m);
       steps = omega arith;
       state = drained.state ∙ got.2.state ∙ (λ i. (at i).state) ∙ sym (state_more cells budget Before ms m);
@@ -133,7 +133,7 @@ played_new nb budget count v e = record {
   given = refl;
   steps = omega arith;
   state = ap (λ (w : Visit). w.state) e;
-  over = ap (λ (w : Visit). w.coming) e;
+  over = ap (λ (w : Visit). w.pending) e;
   nb_is = ap (λ (w : Visit). w.nb) e;
   budget_is = ap (λ (w : Visit). w.budget) e;
 }
@@ -144,24 +144,24 @@ pub played_message : {nb : List CellCode} {budget count_at : ℕ} {parts : List 
     → IsPlayed nb budget (texts (take i messages)) count_at parts v count
     → IsDelivery (get_or messages i (record { ref_ptr = (0, 0); now = [] })).now v w d
     → IsDrained w count after count_after
-    → IsPlayed nb budget (texts (take (i + 1) messages)) count_at (parts ++ w.coming) after count_after
+    → IsPlayed nb budget (texts (take (i + 1) messages)) count_at (parts ++ w.pending) after count_after
 played_message {nb = nb} {budget = budget} {count_at = count_at} {parts = parts} messages i d w after count_after within p does drained =
     let none : Bor (List ℕ) = record { ref_ptr = (0, 0); now = [] } in
-    subst (λ sent. IsPlayed nb budget sent count_at (parts ++ w.coming) after count_after)
+    subst (λ sent. IsPlayed nb budget sent count_at (parts ++ w.pending) after count_after)
     (sym (map_more (λ (m : Bor (List ℕ)). m.now) messages i none within))
     (played_next (get_or messages i none).now d w after count_after p does drained)
 
 -- the visit once the frames to come are given
 abbrev pub when_over : Visit → Visit
-when_over w = record { nb = w.nb; budget = w.budget; state = w.state; coming = []; env = w.env; newest = w.newest; spoiled = w.spoiled }
+when_over w = record { nb = w.nb; budget = w.budget; state = w.state; pending = []; env = w.env; newest = w.newest; spoiled = w.spoiled }
 
 pub played_answer : {nb : List CellCode} {budget count_at : ℕ} {parts : List Part} {v : Visit} {count : ℕ}
     → (messages : List (Bor (List ℕ))) (i : ℕ) (d : Delivered) (w : Visit) → i < length messages
     → IsPlayed nb budget (texts (take i messages)) count_at parts v count
     → IsDelivery (get_or messages i (record { ref_ptr = (0, 0); now = [] })).now v w d
-    → IsPlayed nb budget (texts (take (i + 1) messages)) count_at (parts ++ w.coming) (when_over w) (count + cost_of_parts w.coming)
+    → IsPlayed nb budget (texts (take (i + 1) messages)) count_at (parts ++ w.pending) (when_over w) (count + cost_of_parts w.pending)
 played_answer {count = count} messages i d w within p does =
-    played_message messages i d w (when_over w) (count + cost_of_parts w.coming) within p does
+    played_message messages i d w (when_over w) (count + cost_of_parts w.pending) within p does
     (record { steps = refl; over = refl; state = refl; nb = refl; budget = refl })
 
 -- the parts of the first messages begin those of all messages

@@ -11,7 +11,7 @@ ghost use Rattle.py_tree.specs.View.{view_cells};
 use crate::frame_line::set_line;
 use cell_graph::Notebook;
 use frames::Frame;
-use kernel::{Kernel, Stepped, open};
+use kernel::{Kernel, Stepped};
 use link_io::{Failed, Sink, write_all};
 use py_eval::Steps;
 use py_value::Memory;
@@ -81,18 +81,18 @@ fn drain<'n, O: Sink, L: Ledger>(
 ) -> Result<(), PlayFault>
     ensures written { OnOk result
         (Took (O.taken out.old) (O.taken out.new)
-        (labelled label.now (frames_in kernel.old.coming))) }
+        (labelled label.now (frames_in kernel.old.pending))) }
     ensures begun { OnErr result
         (TookPart (O.taken out.old) (O.taken out.new)
-        (labelled label.now (frames_in kernel.old.coming))) }
+        (labelled label.now (frames_in kernel.old.pending))) }
     ensures later { O.faults out.old ≤ O.faults out.new }
     ensures cut { IfErr result (λ fault. fault ≡ PlayFault.WriteFault
-        → IsCut label.now kernel.old.coming (O.taken out.old)
+        → IsCut label.now kernel.old.pending (O.taken out.old)
         (O.taken out.new) steps.old steps.new) }
     ensures failed { IfErr result
         (λ fault. fault ≡ PlayFault.WriteFault → Rose (O.faults out.old) (O.faults out.new)) }
-    ensures steps { OnOk result (steps.new ≡ steps.old + cost_of_parts kernel.old.coming) }
-    ensures over { OnOk result (kernel.new.coming ≡ []) }
+    ensures steps { OnOk result (steps.new ≡ steps.old + cost_of_parts kernel.old.pending) }
+    ensures over { OnOk result (kernel.new.pending ≡ []) }
     ensures state { OnOk result (kernel.new.state ≡ kernel.old.state) }
     ensures nb { OnOk result (kernel.new.nb ≡ kernel.old.nb) }
     ensures budget { OnOk result (kernel.new.budget ≡ kernel.old.budget) }
@@ -143,7 +143,7 @@ pub fn play<O: Sink, L: Ledger>(
     ensures failed { IfErr result
         (λ fault. fault ≡ PlayFault.WriteFault → Rose (O.faults out.old) (O.faults out.new)) }
 {
-    let mut kernel = open(alloc, notebook, budget)?;
+    let mut kernel = Kernel::open(alloc, notebook, budget)?;
     let mut line = Vec::new(alloc);
     for message in messages {
         let _taken = kernel.deliver(alloc, message)?;

@@ -3,7 +3,7 @@ ghost use Rattle.std.specs.Prelude.{◌<◌, length, IfErr, IfOk, MatchOption};
 ghost use Rattle.visit_meaning.specs.Answer.{Message};
 ghost use Rattle.visit_meaning.specs.Messages.{IsMessage};
 ghost use Rattle.program_meaning.specs.Scripts.{FirstLine, IsSend};
-ghost use Rattle.script_run.specs.ScriptRead.{IsFault, IsRead};
+ghost use Rattle.script_run.specs.Script.{IsFault, IsRead};
 
 use kernel::read_text;
 use py_tree::{BYTE_LIMIT, whole_line};

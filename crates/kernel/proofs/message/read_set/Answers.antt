@@ -3,7 +3,7 @@ use Rattle.std.proofs.Common.{◌≡◌, ◌∙◌, arith, subst, sym, ℤ}
 use Rattle.std.proofs.lemmas.Int.{ints}
 use mir.Syntax.{w128}
 use mir.Val.{of_z, to_z}
-use Rattle.kernel.specs.Read.{IsSet}
+use Rattle.kernel.specs.Message.{IsSet}
 use Rattle.kernel.proofs.MessageParts as parts
 use Rattle.kernel.proofs.message.read_set.Goals as goal
 

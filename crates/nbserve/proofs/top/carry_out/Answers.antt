@@ -11,11 +11,11 @@ use Rattle.py_tree.specs.Trees.{Cell}
 use Rattle.py_tree.specs.View.{view_cells}
 use Rattle.nbserve.proofs.Carrying.{same_played, unloaded_stops, unplayed_stops}
 use Rattle.kernel.proofs.Outcomes.{if_err_of}
-use Rattle.nbserve.specs.Asked.{asked}
-use Rattle.nbserve.specs.Carried as carried
-use Rattle.nbserve.specs.Carried.{Carried, IsPlayed}
-use Rattle.nbserve.specs.Stops.{IsStopped, IsUnloaded, IsUnplayed}
-use Rattle.nbserve.specs.declared.stop.Stop.{Stop}
+use Rattle.nbserve.specs.Command.{asked}
+use Rattle.nbserve.specs.Execution as carried
+use Rattle.nbserve.specs.Execution.{Carried, IsPlayed}
+use Rattle.nbserve.specs.CommandFault.{IsStopped, IsUnloaded, IsUnplayed}
+use Rattle.nbserve.specs.declared.command_fault.CommandFault.{CommandFault}
 use Rattle.nbserve.proofs.top.carry_out.Goals as goal
 
 pub returns-in_err-notebook-clause-stopped : goal.returns-in_err-notebook-clause-stopped
@@ -75,7 +75,7 @@ returns-clause-stopped g c =
     let first = g.F.Files.faults c.args.files.now in
     let between = g.F.Files.faults c.notebook_in.new.files in
     let last = g.F.Files.faults c.perform_script.new.files in
-    let stops : (why : Stop) → IsUnplayed later (Rose between last) script why → IsStopped holds (Rose first last) words why = λ why is.
+    let stops : (why : CommandFault) → IsUnplayed later (Rose between last) script why → IsStopped holds (Rose first last) words why = λ why is.
     unplayed_stops holds later first between last words file script nb why
     (sym c.in-Some.ensures ∙ ap (λ command. Some (asked command)) c.in-Play.is)
     (subst (λ name. IsLoaded holds name nb) (c.notebook.ensures ∙ ap (λ command. notebook_of (asked command)) c.in-Play.is) c.in_ok-notebook.ensures.loaded)

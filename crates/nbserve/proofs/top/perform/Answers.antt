@@ -7,7 +7,7 @@ use Rattle.program_meaning.specs.Program.{usual_budget}
 use Rattle.py_tree.specs.View.{view_cells}
 use Rattle.nbserve.proofs.Carrying.{cut_in_last, ended_after}
 use Rattle.script_run.specs.Cut as cut
-use Rattle.nbserve.specs.Wrote as wrote
+use Rattle.nbserve.specs.Output as wrote
 use Rattle.nbserve.proofs.top.perform.Goals as goal
 
 pub returns-in-Ok : goal.returns-in-Ok

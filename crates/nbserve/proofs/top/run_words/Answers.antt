@@ -7,8 +7,8 @@ use Rattle.visit_meaning.specs.Answer.{Before, parts_from}
 use Rattle.program_meaning.specs.Program.{usual_budget}
 use Rattle.script_run.specs.Cut.{IsCutOff}
 use Rattle.nbserve.specs.Works.{label_of, last_of}
-use Rattle.nbserve.specs.Wrote.{Wrote}
-use Rattle.nbserve.specs.declared.stop.Stop.TheVariants as stop
+use Rattle.nbserve.specs.Output.{Wrote}
+use Rattle.nbserve.specs.declared.command_fault.CommandFault.TheVariants as stop
 use Rattle.nbserve.proofs.Written.{carried_cut, carried_done, carried_steps, carried_wrote, stopped_not_cut, stopped_not_done, stopped_wrote, wrote_accepted, wrote_complete, wrote_range, wrote_read, wrote_no_script, wrote_refused, wrote_usage, wrote_write}
 use Rattle.nbserve.proofs.top.run_words.Goals as goal
 

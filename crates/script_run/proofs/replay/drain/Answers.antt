@@ -23,7 +23,7 @@ returns-in_err-write_frame-clause-cut g c =
     let gives = rw c.in-Frame.is at c.in_ok-frame.ensures.steps in
     let cut = given_cut c.in-Frame.frame c.step.new.self c.step.new.steps _ c.loop-frame.invariant.1 gives c.in_err-write_frame.ensures.begun in
     let cut_whatever : (fault : PlayFault) → fault ≡ play_fault.WriteFault
-    → IsCut c.args.label.now c.args.kernel.now.coming (g.O.Sink.taken c.args.out.now) (g.O.Sink.taken c.write_frame.new.out) c.args.steps.now c.step.new.steps =
+    → IsCut c.args.label.now c.args.kernel.now.pending (g.O.Sink.taken c.args.out.now) (g.O.Sink.taken c.write_frame.new.out) c.args.steps.now c.step.new.steps =
     λ fault unwritten. cut in
     if_err_always _ _ cut_whatever
 

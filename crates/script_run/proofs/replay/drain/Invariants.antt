@@ -9,4 +9,4 @@ invariant-loop-frame g l =
     × IsGiven l.label (g.O.Sink.taken l.fn.out) l.fn.kernel l.fn.steps (g.O.Sink.taken l.out) l.kernel l.steps
 
 abbrev pub decreases-loop-frame : goal.decreases-loop-frame
-decreases-loop-frame g l = length l.kernel.coming
+decreases-loop-frame g l = length l.kernel.pending

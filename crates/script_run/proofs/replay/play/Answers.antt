@@ -38,13 +38,13 @@ returns-in_err-drain-clause-begun g c =
     let label = c.args.label.now in
     let nb : List Cell = view_cells c.args.notebook.now in
     let next = played_answer c.args.messages.now i c.in_ok-_taken._taken w c.loop-message-test.true so_far.1 c.in_ok-_taken.ensures.delivers in
-    let written : TookPart (g.O.Sink.taken c.args.out.now) (g.O.Sink.taken c.drain.new.out) (lines_of label (so_far.0 ++ w.coming)) =
-    subst (TookPart (g.O.Sink.taken c.args.out.now) (g.O.Sink.taken c.drain.new.out)) (sym (lines_append label so_far.0 w.coming))
-    (took_part _ _ _ (lines_of label so_far.0) (lines_of label w.coming) so_far.2 c.in_err-drain.ensures.begun) in
+    let written : TookPart (g.O.Sink.taken c.args.out.now) (g.O.Sink.taken c.drain.new.out) (lines_of label (so_far.0 ++ w.pending)) =
+    subst (TookPart (g.O.Sink.taken c.args.out.now) (g.O.Sink.taken c.drain.new.out)) (sym (lines_append label so_far.0 w.pending))
+    (took_part _ _ _ (lines_of label so_far.0) (lines_of label w.pending) so_far.2 c.in_err-drain.ensures.begun) in
     let part : (ms : List Message) → AreMessages (map (λ m. m.now) c.args.messages.now) ms
     → TookPart (g.O.Sink.taken c.args.out.now) (g.O.Sink.taken c.drain.new.out) (labelled label (solo nb c.args.budget ms)) = λ ms are.
     let begins = played_begins c.args.messages.now (i + 1) next ms are in
-    part_of_lines label (so_far.0 ++ w.coming) begins.0 _ _ _ begins.1 written in
+    part_of_lines label (so_far.0 ++ w.pending) begins.0 _ _ _ begins.1 written in
     on_err_always _ _ part
 
 pub returns-in_err-drain-clause-cut : goal.returns-in_err-drain-clause-cut
@@ -61,7 +61,7 @@ returns-in_err-drain-clause-cut g c =
     if_err_of c.from_residual-in_err-drain.result why Cut c.from_residual-in_err-drain.ensures.1
     (λ unwritten ms are.
     let begins = played_begins c.args.messages.now (i + 1) next ms are in
-    cut_behind so_far.0 w.coming begins.0 _ _ _ _ _ begins.1 so_far.2 so_far.1.steps (c.in_err-drain.ensures.cut unwritten))
+    cut_behind so_far.0 w.pending begins.0 _ _ _ _ _ begins.1 so_far.2 so_far.1.steps (c.in_err-drain.ensures.cut unwritten))
 
 pub loop-message-preserved : goal.loop-message-preserved
 loop-message-preserved g c =
@@ -69,7 +69,7 @@ loop-message-preserved g c =
     let w = c.deliver.new.self in (
       omega (arith, c.loop-message.invariant.0, c.in_ok-drain.ensures.later),
       (
-        so_far.0 ++ w.coming,
+        so_far.0 ++ w.pending,
         played_message c.args.messages.now c.loop-message.message-index c.in_ok-_taken._taken w c.drain.new.kernel c.drain.new.steps
             c.loop-message-test.true so_far.1 c.in_ok-_taken.ensures.delivers
             (record {
@@ -79,7 +79,7 @@ loop-message-preserved g c =
               nb = c.in_ok-drain.ensures.nb;
               budget = c.in_ok-drain.ensures.budget;
             }),
-        took_lines c.args.label.now so_far.0 w.coming _ _ _ so_far.2 c.in_ok-drain.ensures.written,
+        took_lines c.args.label.now so_far.0 w.pending _ _ _ so_far.2 c.in_ok-drain.ensures.written,
       ),
     )
 

@@ -3,7 +3,7 @@ use Rattle.std.proofs.Common.{Some}
 use Rattle.std.specs.Prelude.{codes}
 use Rattle.std.proofs.lemmas.Bool.Decides.{Decides-eqb}
 use Rattle.std.proofs.lemmas.Slice.Eq.{strip_prefix_is}
-use Rattle.kernel.specs.Read.{message_of}
+use Rattle.kernel.specs.Message.{message_of}
 use Rattle.script_run.proofs.ScriptLines.{message_in}
 use Rattle.script_run.proofs.script.sent_text.Goals as goal
 

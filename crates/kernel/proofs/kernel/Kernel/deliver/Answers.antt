@@ -7,7 +7,7 @@ use Rattle.kernel.proofs.kernel.Kernel.deliver.Goals as goal
 pub returns-then-pending-gt0-clause-delivers : goal.returns-then-pending-gt0-clause-delivers
 returns-then-pending-gt0-clause-delivers c =
     let sound = ap (λ (v : Visit). v.spoiled) (sym c.self.view_is) ∙ c.if-self.false in
-    let counted : c.count-pending.result ≡ length c.args.self.now.coming =
+    let counted : c.count-pending.result ≡ length c.args.self.now.pending =
     pending_of c.self.inside.spoiled c.self.inside.state c.args.self.now c.count-pending.result c.self.view_is c.self.invariant sound c.count-pending.ensures in
     (omega arith, counted, refl)
 

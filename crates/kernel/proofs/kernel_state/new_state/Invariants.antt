@@ -1,7 +1,0 @@
--- no cell so far has a frame
-use Rattle.std.proofs.Common.{◌≡◌}
-use Rattle.std.specs.Prelude.{None, replicate}
-use Rattle.kernel.proofs.kernel_state.new_state.Given as goal
-
-abbrev pub invariant-loop : goal.invariant-loop
-invariant-loop l = l.newest.items ≡ replicate l.index None

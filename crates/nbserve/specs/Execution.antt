@@ -1,0 +1,33 @@
+-- Commands that are carried out.
+use Rattle.std.specs.Prelude.{◌≡◌, ℕ, ◌+◌, List, [], ◌∷◌, ◌++◌, codes, Option, Some}
+use Rattle.visit_meaning.specs.Answer.{Before, Message, Open, parts_from, solo, work}
+use Rattle.frame_meaning.specs.FrameText.{labelled}
+use Rattle.program_meaning.specs.Program.{Once, Play, command_of, AreRead, IsLoaded, usual_budget}
+use Rattle.program_meaning.specs.Scripts.{Script, IsScript, messages_of}
+use Rattle.py_tree.specs.Trees.{Cell}
+use Rattle.script_run.specs.Cut.{IsCutOff}
+use Rattle.nbserve.specs.Output.{Ended}
+
+-- The frames of these messages were written, each behind the label, and then the last text; or a beginning of all this. At status 0 the
+-- steps of the messages were counted. At status 4 the text is cut where the write failed, and the steps up to there were counted.
+pub record IsDone (nb : List Cell) (ms : List Message) (label last : List ℕ) (status : ℕ) (before now : Option (List ℕ)) (unwritten : Type 0) (count count_after : ℕ) : Type 0 where
+  pub ended : Ended 0 (labelled label (solo nb usual_budget ms) ++ last) status before now unwritten
+  pub steps : status ≡ 0 → count_after ≡ count + work nb usual_budget ms
+  pub cut : status ≡ 4 → IsCutOff label last (parts_from nb usual_budget Before ms) before now count count_after
+
+-- the script of a file was played
+pub record IsPlayed (holds : List ℕ → Option (Option (List ℕ))) (script : List ℕ) (nb : List Cell) (status : ℕ) (before now : Option (List ℕ)) (unwritten : Type 0) (count count_after : ℕ) : Type 0 where
+  pub bytes : List ℕ
+  pub said : Script
+  pub read : AreRead holds script bytes
+  pub is : IsScript bytes said
+  pub done : IsDone nb (messages_of said) (codes "1 ") (codes "end runs 0 hits 0\n") status before now unwritten count count_after
+
+-- the notebook of the words was opened, or their script was played
+pub data Carried (holds : List ℕ → Option (Option (List ℕ))) (words : List (List ℕ)) (status : ℕ) (before now : Option (List ℕ)) (unwritten : Type 0) (count count_after : ℕ) : Type 0 where
+  opened : (file : List ℕ) (nb : List Cell) → command_of words ≡ Some (Once file) → IsLoaded holds file nb
+      → IsDone nb (Open ∷ []) [] [] status before now unwritten count count_after
+      → Carried holds words status before now unwritten count count_after
+  played : (file script : List ℕ) (nb : List Cell) → command_of words ≡ Some (Play file script) → IsLoaded holds file nb
+      → IsPlayed holds script nb status before now unwritten count count_after
+      → Carried holds words status before now unwritten count count_after
