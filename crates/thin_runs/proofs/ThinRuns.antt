@@ -5,10 +5,10 @@ use Rattle.py_tree.specs.Names.{Name, is_among}
 use Rattle.py_tree.specs.Scope.{defs}
 use Rattle.py_tree.specs.Trees.{Cell}
 use Rattle.graph_meaning.specs.Graph.{defs_of, elements_of, names_at}
-use Rattle.visit_meaning.specs.Runnable.{Runnable}
+use Rattle.visit_meaning.specs.Runnable.{Runnable, itself}
 use Rattle.form_meaning.specs.Thin.{are_thin}
 use Rattle.form_meaning.specs.Thin as thin_form
-use Rattle.visit_meaning.proofs.FixedPoint.{defs_are}
+use Rattle.visit_meaning.proofs.FixedPoint.{defs_are, refs_are}
 use Rattle.thin_runs.proofs.ThinBindings.{thin_only_made}
 use Rattle.thin_runs.proofs.ThinCells.{nothing, thin_but_present, thin_cell, thin_element, thin_same}
 use Rattle.thin_runs.proofs.ThinCode.{thin_few, thin_good}
@@ -29,8 +29,10 @@ thin_runnable nb thin = record {
   few = omega (arith, thin_few nb thin);
   levelled = λ c code e. (thin_good nb c code thin e).0;
   plain = λ c code e. (thin_good nb c code thin e).1;
-  by_references = λ budget ui may_run c code env env' e bind bind' agree.
-      let t = thin_cell nb c code thin e in thin_same (thin_form.elements_of nb) t.0 budget ui may_run c env env' code t.1 agree;
+  by_reads = λ budget ui may_run c code env env' e bind bind' agree.
+      let t = thin_cell nb c code thin e in
+      thin_same (thin_form.elements_of nb) t.0 budget ui may_run c env env' code t.1
+      (λ x read. agree x (itself (refs_are nb c code x e ∙ read)));
   but_present = λ budget ui ui' may_run c code env e bind.
       let t = thin_cell nb c code thin e in thin_but_present (thin_form.elements_of nb) t.0 budget ui ui' may_run c env code t.1;
   created = λ c x here. elements_defined nb c x thin here;

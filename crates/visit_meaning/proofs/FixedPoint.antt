@@ -1,5 +1,5 @@
 -- The whole notebook is determined cell by cell: each cell has the outcome that it has where its parents have ended as they end in the
--- whole, from bindings that have the names which it references as the whole has them.
+-- whole, from bindings that have the names which neither it nor a later cell defines as the whole has them.
 use Rattle.std.proofs.Common.{◌≡◌, ◌∙◌, refl, sym, ap, subst, ℕ, zero, suc, ◌<◌, Bool, true, false, cond, ◌&&◌, ◌||◌, ◌==◌, List, [], ◌∷◌, ◌++◌, length, map, Option, Some, None, slice_get, ⊎_elim, append_assoc, append-nil, length-append, ◌+◌, arith}
 use Rattle.std.specs.List.{list_all}
 use Rattle.std.proofs.lemmas.Bool.{cases_Bool, eq-eqb, eqb-true, and_left, or_cases, or_from, or_parts, both_ways}
@@ -17,7 +17,7 @@ use Rattle.run_meaning.specs.Meaning.{Env}
 use Rattle.visit_meaning.specs.Runnable.{BindsDefined}
 use Rattle.visit_meaning.specs.Underway.{HasNoLocals, defined_in, ended, frame_at}
 use Rattle.visit_meaning.specs.Whole.{Outcome, Progress, outcome_of, ended_ok, is_ok, with_outcome, with_code, with_cell, with_cells, whole}
-use Rattle.visit_meaning.proofs.InOrder.{ComesInOrder, EachOnce, all_agree, comes_once, defined_nowhere, defines_edge, defs_settled, is_last, order_comes, ready_unlisted, refs_settled, some_at}
+use Rattle.visit_meaning.proofs.InOrder.{ComesInOrder, EachOnce, all_agree, comes_once, defined_nowhere, defs_settled, is_last, order_comes, ready_unlisted}
 use Rattle.graph_meaning.proofs.Orders.{free_is_listed, in_more_cases, parent_listed}
 use Rattle.visit_meaning.proofs.Outcomes.{outcome_cell, outcome_settles}
 
@@ -221,8 +221,7 @@ pub record RanSo (nb : List Cell) (budget : ℕ) (ui : Map Value) (cells : List 
   pub cost : cost_at q.frames q.costs c ≡ Some (outcome_in nb budget ui q.frames c env code).cost
   pub ended : ended_ok q.frames c ≡ is_ok (outcome_in nb budget ui q.frames c env code).frame.status
   pub defined : (x : Name) → is_among x (defs code) ≡ true → look_up x (outcome_in nb budget ui q.frames c env code).env ≡ look_up x q.env
-  -- what those bindings have: the whole's at each name that it references, and at each that neither it nor a later cell defines
-  pub referenced : (x : Name) → is_among x (refs code) ≡ true → look_up x env ≡ look_up x q.env
+  -- what those bindings have: the whole's at each name that neither it nor a later cell defines
   pub kept : (x : Name) → defined_in nb (c ∷ after) x ≡ false → look_up x env ≡ look_up x q.env
   -- no other names than those that cells before it define, and none with a leading underscore
   pub only : (x : Name) → defined_in nb before x ≡ false → look_up x env ≡ None
@@ -266,7 +265,6 @@ module _ (nb : List Cell) (budget : ℕ) (ui : Map Value) (c : ℕ) (code : Cell
         ended = ap (λ fs. ended_ok fs c) later.frames_are ∙ ended_first p.frames o.frame later.frames c unframed named (ap (is_in c) later.cells_are ∙ comes_once nb (done ++ c ∷ []) ds c comes.2 listed)
             ∙ ap (λ (o : Outcome). is_ok o.frame.status) same;
         defined = λ x h. ap (λ (o : Outcome). look_up x o.env) (sym same) ∙ sym (later.others x (defs_settled nb (done ++ c ∷ []) ds c x once comes.2 listed (defs_are nb c code x e ∙ h)));
-        referenced = λ x h. others x (refs_settled nb done ds c x comes (refs_are nb c code x e ∙ h));
         kept = others;
         only = so_far.others;
         plain = so_far.plain;
@@ -354,18 +352,6 @@ pub by_parents : (nb : List Cell) → NoneCyclic nb → (P : ℕ → Type 0) →
     → (c : ℕ) → c < length nb → P c
 by_parents nb free P next c below =
     by_parents_in nb P [] (order nb) (order_comes nb) (λ a h. absurd (both_ways false refl h)) next c (free_is_listed nb free c below)
-
--- Where two wholes agree on what the parents of a cell define, they agree on all that it references.
-pub references_agree : (nb : List Cell) (budget : ℕ) (ui other : Map Value) (c : ℕ)
-    → ((a : ℕ) (x : Name) → edge nb a c ≡ true → is_among x (defs_of nb a) ≡ true → is_among x (refs_of nb c) ≡ true
-    → look_up x (whole nb budget ui).env ≡ look_up x (whole nb budget other).env)
-    → (x : Name) → is_among x (refs_of nb c) ≡ true → look_up x (whole nb budget ui).env ≡ look_up x (whole nb budget other).env
-references_agree nb budget ui other c parents_agree x read = ⊎_elim
-    (λ some.
-    let w = some_at (λ a. is_among x (defs_of nb a)) (order nb) some in
-    parents_agree w.0 x (defines_edge nb w.0 c x read w.2) w.2 read)
-    (λ no. whole_only nb budget ui x no ∙ sym (whole_only nb budget other x no))
-    (cases_Bool (defined_in nb (order nb) x))
 
 -- Where the parents of a cell have ended alike in two wholes, it may run in both or in neither.
 pub may_run_alike : (nb : List Cell) (frames others : List CellFrame) (c : ℕ) → ((a : ℕ) → edge nb a c ≡ true → ended_ok frames a ≡ ended_ok others a)

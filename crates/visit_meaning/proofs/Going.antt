@@ -16,7 +16,7 @@ use Rattle.frames.specs.declared.frame.CellFrame.{CellFrame}
 use Rattle.frames.specs.declared.frame.Frame.TheVariants as frame
 use Rattle.visit_meaning.proofs.FixedPoint.{ended_newest, ran_defined, ran_so, whole_defined, whole_only}
 use Rattle.visit_meaning.proofs.InOrder.{all_agree}
-use Rattle.visit_meaning.proofs.OneByOne.{Reaches, but_defined, like_referenced, order_first, reaches}
+use Rattle.visit_meaning.proofs.OneByOne.{Reaches, but_defined, like_ran, order_first, reaches}
 use Rattle.graph_meaning.proofs.Orders.{free_is_listed, from_cell}
 use Rattle.visit_meaning.proofs.ResultsOf.{once_framed, one_result}
 
@@ -38,10 +38,10 @@ module _ (nb : List Cell) (budget : ℕ) (ui : Map Value) where
       let r = ran_so nb budget ui c code e runs.once runs.free in
       let may : list_all ok (parents nb c) ≡ list_all (ended_ok goal.frames) (parents nb c) =
       all_agree (λ a. edge nb a c) ok (ended_ok goal.frames) (all_cells nb)
-      (λ a on. ap ended (g.newest_is a (from_cell nb a c on) (g.first.0 a on)) ∙ ended_newest goal.frames a (once_framed nb budget ui)) in
-      let same = runs.runnable.by_references budget ui (list_all ok (parents nb c)) c code env r.env e
+      (λ a on. ap ended (g.newest_is a (from_cell nb a c on) (g.first.0 a ([], (on, tt)))) ∙ ended_newest goal.frames a (once_framed nb budget ui)) in
+      let same = runs.runnable.by_reads budget ui (list_all ok (parents nb c)) c code env r.env e
       (but_defined nb (c ∷ left) env goal.env g.but (whole_defined nb budget ui)) (ran_defined r)
-      (like_referenced nb budget ui (order nb) left goal c code env e r g.first g.but) in
+      (like_ran nb budget ui left goal c code env runs.once r g.first g.but) in
       reaches nb budget ui (list_all ok (parents nb c)) (order nb) left goal c code env e r g.but
       (subst (λ b. SameOutcome (defs code) (outcome_now nb budget ui env newest c code) (outcome_of budget ui b c r.env code)) may same)
 

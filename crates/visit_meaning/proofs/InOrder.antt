@@ -11,7 +11,7 @@ use Rattle.py_tree.specs.Trees.{Cell}
 use Rattle.py_value.proofs.SortedMaps.{name_of}
 use Rattle.graph_meaning.specs.Graph.{names_at, defs_of, refs_of, edge, all_cells, is_in, is_ready, next_cell, with_next, places, order, defined_before, NoneDoubled}
 use Rattle.visit_meaning.specs.Underway.{defined_in}
-use Rattle.graph_meaning.proofs.Orders.{in_more, parent_listed, next_found, is_cell_number}
+use Rattle.graph_meaning.proofs.Orders.{in_more, next_found, is_cell_number}
 
 -- ---- tests of lists
 
@@ -116,15 +116,6 @@ comes_once nb done [] a comes h = refl
 comes_once nb done (c ∷ cs) a comes h =
     or_from (c == a) (is_in a cs) (apart_from done a c (ready_unlisted nb done c comes.0) h)
     (comes_once nb (done ++ c ∷ []) cs a comes.2 (in_more a c done h))
-
--- no cell from this one on defines what it references
-pub refs_settled : (nb : List Cell) (done cs : List ℕ) (c : ℕ) (x : Name) → ComesInOrder nb done (c ∷ cs) → is_among x (refs_of nb c) ≡ true
-    → defined_in nb (c ∷ cs) x ≡ false
-refs_settled nb done cs c x comes read = false_from_ne_true (defined_in nb (c ∷ cs) x)
-    (λ h.
-    let w = some_at (λ a. is_among x (defs_of nb a)) (c ∷ cs) h in
-    let parent = parent_listed nb done w.0 c comes.0 (defines_edge nb w.0 c x read w.2) in
-    both_ways (is_in w.0 (c ∷ cs)) (comes_once nb done (c ∷ cs) w.0 comes parent) w.1)
 
 -- no later cell defines what one defines
 pub defs_settled : (nb : List Cell) (done cs : List ℕ) (c : ℕ) (x : Name) → NoneDoubled nb → ComesInOrder nb done cs → is_in c done ≡ true

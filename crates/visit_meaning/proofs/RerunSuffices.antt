@@ -5,7 +5,7 @@ use Rattle.std.specs.List.{list_all}
 use Rattle.std.proofs.lemmas.Bool.{cases_Bool, cases_lt, false_from_ne_true, or_parts, both_ways}
 use Rattle.std.proofs.lemmas.Option.{none-some}
 use Rattle.py_tree.specs.Names.{Name, is_among}
-use Rattle.py_tree.specs.Scope.{defs, refs}
+use Rattle.py_tree.specs.Scope.{defs}
 use Rattle.py_tree.specs.Trees.{Cell}
 use Rattle.py_value.specs.ElementData.{ElementData, with_present}
 use Rattle.py_value.specs.Elements.{at_kept}
@@ -18,8 +18,8 @@ use Rattle.py_value.proofs.Levels.{data_of-value_of}
 use Rattle.visit_meaning.specs.Answer.{element_in, named_so, names_of, next}
 use Rattle.graph_meaning.specs.Graph.{defs_of, refs_of, elements_of, edge, is_in, parents, order}
 use Rattle.graph_meaning.specs.Reruns.{is_within, rerun}
-use Rattle.visit_meaning.specs.Runnable.{LikeOutcome, SameOutcome, SameBinding, same_bound, one_element}
-use Rattle.visit_meaning.specs.Underway.{Going, HasNoElements, HasNoLocals, defined_in, frame_at}
+use Rattle.visit_meaning.specs.Runnable.{MayRead, itself, above, beside, LikeOutcome, SameOutcome, SameBinding, same_bound, one_element}
+use Rattle.visit_meaning.specs.Underway.{Going, Leads, HasNoElements, HasNoLocals, defined_in, frame_at}
 use Rattle.visit_meaning.specs.Whole.{Outcome, Progress, outcome_of, ended_ok, whole}
 use Rattle.run_meaning.specs.declared.binding.Binding.{Binding}
 use Rattle.run_meaning.specs.declared.binding.Binding.TheVariants.{Plain}
@@ -30,7 +30,7 @@ use Rattle.visit_meaning.proofs.FixedPoint.{by_parents, cells_of, code_there, de
 use Rattle.visit_meaning.proofs.Going.{Runs}
 use Rattle.visit_meaning.proofs.InBeing.{element_bound}
 use Rattle.visit_meaning.proofs.InOrder.{any_at, any_name, definer_below, one_definer, some_at}
-use Rattle.visit_meaning.proofs.OneByOne.{SameResult, cell_referenced, first_filter, order_first, related_defined, same_result}
+use Rattle.visit_meaning.proofs.OneByOne.{SameResult, definer_leads, first_filter, last_edge, leads_below, order_first, ran_reads, related_defined, same_result}
 use Rattle.graph_meaning.proofs.Orders.{free_is_listed, places_below}
 use Rattle.graph_meaning.proofs.Reaching.{is_kept, near_next, near_reader, passes}
 use Rattle.visit_meaning.proofs.SetValues.{AllSet, laid_at, laid_by, laid_is, laid_over, laid_passed, next_kept, set_there, sets_passed, sorted_laid}
@@ -140,22 +140,50 @@ module _ (nb : List Cell) (budget : ℕ) (ui sets : Map Value) (taken : AreTaken
     pub result : SameResult old new c
     pub bindings : (x : Name) → is_among x (defs_of nb c) ≡ true → SameBinding ui present x (look_up x old.env) (look_up x new.env)
 
-  unchanged_next : (c : ℕ) → c < length nb → ((a : ℕ) → edge nb a c ≡ true → is_in a again ≡ false → Unchanged a) → is_in c again ≡ false → Unchanged c
-  unchanged_next c below before off =
+  -- so does one that a cell defines which doesn't run again, and that is no element of it
+  unset_beside : (c : ℕ) (x : Name) → is_among x (defs_of nb c) ≡ true → is_among x (elements_of nb c) ≡ false → is_among x (names_of sets) ≡ false
+  unset_beside c x defined apart = false_from_ne_true _
+      (λ set.
+      let there = set_there old.env sets x taken.all set in
+      let w = taken.runs.runnable.only_made budget ui x there.0 taken.plain there.1 in
+      let same : w.0 ≡ c = one_definer nb w.0 c x taken.runs.once (taken.runs.runnable.created w.0 x w.1) defined in
+      both_ways _ (ap (λ a. is_among x (elements_of nb a)) same ∙ apart) w.1)
+
+  -- a cell that doesn't run again, and what is known of it
+  record Stays (c : ℕ) : Type 0 where
+    off : is_in c again ≡ false
+    unchanged_there : Unchanged c
+
+  -- what a cell that doesn't run again may read is the same in both wholes, where the cells that lead to it stay
+  reads_same : (c : ℕ) → c < length nb → is_in c again ≡ false → ((a : ℕ) → Leads nb a c → Stays a) → (x : Name) → MayRead nb c x
+      → look_up x old.env ≡ look_up x new.env
+  reads_same c below off stays x read = ⊎_elim
+      (λ some.
+      let w = some_at (λ a. is_among x (defs_of nb a)) (order nb) some in
+      let s = stays w.0 (definer_leads nb c x taken.runs.once w.0 w.2 read) in
+      one_binding ui present x (same_present w.0 x s.off w.2 (unset read)) (s.unchanged_there.bindings x w.2))
+      (λ no. whole_only nb budget ui x no ∙ sym (whole_only nb budget present x no))
+      (cases_Bool (defined_in nb (order nb) x))
+    where
+      unset : MayRead nb c x → is_among x (names_of sets) ≡ false
+      unset (itself read) = reads_none c x below off read
+      unset (above a leads read) = reads_none a x (leads_below nb a c leads) (stays a leads).off read
+      unset (beside a leads here apart) = unset_beside a x here apart
+
+  unchanged_next : (c : ℕ) → c < length nb → is_in c again ≡ false → ((a : ℕ) → Leads nb a c → Stays a) → Unchanged c
+  unchanged_next c below off stays =
       let there = code_there nb c below in
       let code : Cell = there.0 in
       let e = there.1 in
       let r = ran_so nb budget ui c code e taken.runs.once taken.runs.free in
       let s = ran_so nb budget present c code e taken.runs.once taken.runs.free in
-      let kept : (a : ℕ) → edge nb a c ≡ true → Unchanged a = λ a edge. before a edge (parents_kept a c below edge off) in
       let may : list_all (ended_ok old.frames) (parents nb c) ≡ list_all (ended_ok new.frames) (parents nb c) =
-      may_run_alike nb old.frames new.frames c (λ a edge. (kept a edge).result.ended) in
-      let agree : (x : Name) → is_among x (refs code) ≡ true → look_up x r.env ≡ look_up x s.env =
-      cell_referenced nb budget ui present c code e r s
-      (λ a x edge defined read. one_binding ui present x (same_present a x (parents_kept a c below edge off) defined (reads_none c x below off read)) ((kept a edge).bindings x defined)) in
+      may_run_alike nb old.frames new.frames c (λ a edge. (stays a ([], (edge, tt))).unchanged_there.result.ended) in
+      let agree : (x : Name) → MayRead nb c x → look_up x r.env ≡ look_up x s.env =
+      λ x read. ran_reads taken.runs.once r x read ∙ reads_same c below off stays x read ∙ sym (ran_reads taken.runs.once s x read) in
       let may_run : Bool = list_all (ended_ok old.frames) (parents nb c) in
       let alike = same_then_like
-      (taken.runs.runnable.by_references budget ui may_run c code r.env s.env e (ran_defined r) (ran_defined s) agree)
+      (taken.runs.runnable.by_reads budget ui may_run c code r.env s.env e (ran_defined r) (ran_defined s) agree)
       (taken.runs.runnable.but_present budget ui present may_run c code s.env e (ran_defined s)) in
       let same : outcome_of budget present (list_all (ended_ok old.frames) (parents nb c)) c s.env code ≡ outcome_in nb budget present new.frames c s.env code =
       ap (λ b. outcome_of budget present b c s.env code) may in
@@ -167,9 +195,22 @@ module _ (nb : List Cell) (budget : ℕ) (ui sets : Map Value) (taken : AreTaken
             (subst (λ (o : Outcome). SameBinding ui present x (look_up x (outcome_in nb budget ui old.frames c r.env code).env) (look_up x o.env)) same (alike.defined x here));
       }
 
+  -- the cell stays, and so do those that lead to it
+  record AllStay (c : ℕ) : Type 0 where
+    here : Unchanged c
+    higher : (a : ℕ) → Leads nb a c → Stays a
+
+  all_stay : (c : ℕ) → c < length nb → ((a : ℕ) → edge nb a c ≡ true → is_in a again ≡ false → AllStay a) → is_in c again ≡ false → AllStay c
+  all_stay c below before off =
+      let higher : (a : ℕ) → Leads nb a c → Stays a = λ a leads. ⊎_elim
+      (λ edge. let gone = parents_kept a c below edge off in record { off = gone; unchanged_there = (before a edge gone).here })
+      (λ last. (before last.0 last.1 (parents_kept last.0 c below last.1 off)).higher a last.2)
+      (last_edge nb a leads.0 c leads.1) in
+      record { here = unchanged_next c below off higher; higher = higher }
+
   -- A cell that doesn't run again has in the new whole the result that it had in the old one.
   pub unchanged : (c : ℕ) → c < length nb → is_in c again ≡ false → Unchanged c
-  unchanged = by_parents nb taken.runs.free (λ c. is_in c again ≡ false → Unchanged c) (λ c below before. unchanged_next c below before)
+  unchanged c below off = (by_parents nb taken.runs.free (λ c. is_in c again ≡ false → AllStay c) all_stay c below off).here
 
   -- so it has the same frame
   pub frame_kept : (c : ℕ) → is_in c again ≡ false → frame_at new.frames c ≡ frame_at old.frames c

@@ -1,5 +1,5 @@
 -- Cells that run one after the other towards a whole: where they stand.
-use Rattle.std.specs.Prelude.{◌≡◌, ℕ, ◌<◌, Bool, true, false, ◌==◌, List, [], ◌∷◌, length, find, Option, Some, None}
+use Rattle.std.specs.Prelude.{◌≡◌, ℕ, ◌<◌, Bool, true, false, ◌==◌, List, [], ◌∷◌, ◌++◌, length, find, Option, Some, None}
 use Rattle.std.specs.List.{list_any, list_all}
 use Rattle.py_tree.specs.Names.{Name, is_among, is_local}
 use Rattle.py_tree.specs.Trees.{Cell}
@@ -7,7 +7,7 @@ use Rattle.py_value.specs.Maps.{Map, look_up, IsSortedMap}
 use Rattle.py_value.specs.declared.types.Value.{Value}
 use Rattle.py_value.specs.declared.types.Value.TheVariants as V
 use Rattle.frames.specs.declared.frame.CellFrame.{CellFrame}
-use Rattle.graph_meaning.specs.Graph.{defs_of, edge, is_in, parents}
+use Rattle.graph_meaning.specs.Graph.{defs_of, is_in, parents, IsChain}
 use Rattle.run_meaning.specs.Meaning.{Env}
 use Rattle.visit_meaning.specs.Whole.{Outcome, outcome_of, is_ok, whole}
 
@@ -24,10 +24,14 @@ HasNoElements ui = (x : Name) (v : Value) → look_up x ui ≡ Some v → is_ele
 
 -- ---- the cells that are left
 
--- no parent of a cell is the cell itself or a later one, and each cell stands once
-abbrev pub ParentsFirst : List Cell → List ℕ → Type 0
-ParentsFirst nb [] = Unit {0}
-ParentsFirst nb (c ∷ cs) = ((a : ℕ) → edge nb a c ≡ true → is_in a (c ∷ cs) ≡ false) × (is_in c cs ≡ false) × ParentsFirst nb cs
+-- a chain of edges leads from one cell to another
+abbrev pub Leads : List Cell → ℕ → ℕ → Type 0
+Leads nb a c = (between : List ℕ) × IsChain nb (a ∷ between ++ c ∷ [])
+
+-- no cell that leads to a cell is the cell itself or a later one, and each cell stands once
+abbrev pub AncestorsFirst : List Cell → List ℕ → Type 0
+AncestorsFirst nb [] = Unit {0}
+AncestorsFirst nb (c ∷ cs) = ((a : ℕ) → Leads nb a c → is_in a (c ∷ cs) ≡ false) × (is_in c cs ≡ false) × AncestorsFirst nb cs
 
 -- one of the cells defines the name
 abbrev pub defined_in : List Cell → List ℕ → Name → Bool
@@ -64,6 +68,6 @@ outcome_now nb budget ui env newest c code = outcome_of budget ui (list_all (λ 
 -- Where cells stand that run one after the other, with these left: the bindings are those of the whole, but at names that the cells
 -- define which are left, and each other cell has as its newest frame the one that it has in the whole.
 pub record Going (nb : List Cell) (budget : ℕ) (ui : Map Value) (left : List ℕ) (env : Env) (newest : ℕ → Option CellFrame) : Type 0 where
-  pub first : ParentsFirst nb left
+  pub first : AncestorsFirst nb left
   pub but : IsBut nb left env (whole nb budget ui).env
   pub newest_is : (a : ℕ) → a < length nb → is_in a left ≡ false → newest a ≡ frame_at (whole nb budget ui).frames a

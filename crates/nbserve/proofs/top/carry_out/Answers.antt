@@ -1,11 +1,10 @@
 -- The command of the words is carried out, or what stops it stops the run.
-use Rattle.std.proofs.Common.{◌∙◌, refl, sym, ap, subst, ℕ, List, [], ◌∷◌, map, Option}
+use Rattle.std.proofs.Common.{◌∙◌, refl, sym, ap, subst, ℕ, List, [], ◌∷◌, map}
 use Rattle.std.specs.Prelude.{Some, string_bytes}
 use Rattle.std.proofs.lemmas.Result.{IfErr-weaker, IfOk-weaker}
 use Rattle.link_io.specs.Outside.{Rose}
 use Rattle.visit_meaning.specs.Answer.{Open}
 use Rattle.program_meaning.specs.Program.{notebook_of, IsLoaded}
-use Rattle.visit_meaning.specs.Runnable.{Runnable}
 use Rattle.thin_runs.proofs.ThinRuns.{thin_runnable}
 use Rattle.py_tree.specs.Trees.{Cell}
 use Rattle.py_tree.specs.View.{view_cells}
@@ -28,15 +27,11 @@ returns-in_err-notebook-clause-stopped g c =
     (unloaded_stops holds failed words (asked c.in-Some.command) why (sym c.in-Some.ensures)
     (subst (λ file. IsUnloaded holds failed file why) c.notebook.ensures c.in_err-notebook.ensures.unloaded))
 
--- the notebook is one that a kernel can run
-runs : {holds : List ℕ → Option (Option (List ℕ))} {file : List ℕ} {nb : List Cell} → IsLoaded holds file nb → Runnable nb
-runs {nb = nb} loaded = thin_runnable nb loaded.2.form.thin
-
 pub perform-requires : goal.perform-requires
-perform-requires g c = runs c.in_ok-notebook.ensures.loaded
+perform-requires g c = thin_runnable (view_cells c.in_ok-notebook.notebook) c.in_ok-notebook.ensures.loaded.2.form.thin
 
 pub perform_script-requires : goal.perform_script-requires
-perform_script-requires g c = runs c.in_ok-notebook.ensures.loaded
+perform_script-requires g c = thin_runnable (view_cells c.in_ok-notebook.notebook) c.in_ok-notebook.ensures.loaded.2.form.thin
 
 pub returns-in-Once-clause-carried : goal.returns-in-Once-clause-carried
 returns-in-Once-clause-carried g c =
