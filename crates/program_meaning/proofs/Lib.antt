@@ -1,5 +1,4 @@
 -- For `scripts_are_read_one_way`.
 pub mod ScriptTexts
-
 -- For `worked_answers` and `worked_scripts`.
 pub mod SliderAnswers

@@ -5,6 +5,5 @@ pub mod ThinCode
 pub mod ThinCells
 pub mod ThinMakes
 pub mod ThinBindings
-
 -- The record.
 pub mod ThinRuns

@@ -6,23 +6,19 @@ pub mod Kept
 pub mod Makes
 pub mod Coincidence
 pub mod Outcomes
-
 -- The whole notebook, cell by cell: each outcome is the one from the whole's own bindings.
 pub mod InOrder
 pub mod FixedPoint
 pub mod ResultsOf
 pub mod AtKept
-
 -- A rerun suffices: cells that run one after the other towards a new whole.
 pub mod OneByOne
 pub mod Going
 pub mod RerunSuffices
 pub mod Standing
-
 -- For `elements_in_being`: values that are set, and the elements that are in being.
 pub mod SetValues
 pub mod InBeing
 pub mod PresentValues
-
 -- For `messages_are_read_one_way`.
 pub mod MessageTexts
