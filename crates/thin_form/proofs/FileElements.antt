@@ -15,7 +15,7 @@ use Rattle.form_meaning.specs.Fails.{HasLine, AreElements}
 use Rattle.form_meaning.specs.Thin.{Elements, makes_slider, is_target, is_line, is_sum, are_lines, line_count, are_cells, head_sliders, sliders, is_import, has_import, elements_of, line_text, body_lines, cell_lines, last_line, footer, file_lines}
 use Rattle.py_tree.specs.TextLines.{text_of}
 use Rattle.py_tree.specs.Names.{Name, is_among, is_name}
-use Rattle.py_tree.specs.Trees.{Tree, Head, value, assign, import_mo, stmt, Stmts, end, then_comes, Cell}
+use Rattle.py_tree.specs.Trees.{Tree, Head, assign, import_mo, stmt, Stmts, end, then_comes, Cell}
 
 -- ---- a test of the lines of cells
 

@@ -12,7 +12,7 @@ use Rattle.form_meaning.specs.Thin.{Elements, is_term, is_maker, is_number_tree,
 use Rattle.py_tree.specs.Levels.{is_literal}
 use Rattle.py_tree.specs.Names.{Name, is_name}
 use Rattle.py_tree.specs.Numbers.{is_number, number_of}
-use Rattle.py_tree.specs.Trees.{Tree, literal, name, sum, attribute, call, Trees, none, more}
+use Rattle.py_tree.specs.Trees.{Tree, literal, name, attribute, call, Trees, none, more}
 use Rattle.py_tree.specs.declared.token.TokenKind.{TokenKind}
 use Rattle.py_tree.specs.declared.token.TokenKind.TheVariants as kind
 

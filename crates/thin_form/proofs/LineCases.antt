@@ -2,7 +2,7 @@
 use Rattle.std.proofs.Common.{◌≡◌, ◌⊎◌, inl, inr, Bool, true, false, not, ◌&&◌, ◌||◌, if◌then◌else◌, List, [], ◌∷◌, refl, sym}
 use Rattle.form_meaning.specs.Thin.{Elements, is_sum, makes_slider, is_line}
 use Rattle.py_tree.specs.Names.{Name, is_name}
-use Rattle.py_tree.specs.Trees.{Tree, literal, name, sum, attribute, call, assign}
+use Rattle.py_tree.specs.Trees.{Tree, call, assign}
 use Rattle.thin_form.specs.Lines.{is_call}
 
 -- a sum, to a name that is no slider's

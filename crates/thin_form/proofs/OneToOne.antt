@@ -5,7 +5,7 @@ use Rattle.std.proofs.lemmas.Bool.{and_parts, and_from}
 use Rattle.std.proofs.lemmas.List.{append_cancel_left}
 use Rattle.std.proofs.lemmas.List.Folds.{list_all-append}
 use Rattle.py_tree.specs.TextLines.{is_unbroken, text_of}
-use Rattle.py_tree.proofs.Breaks.{are_unbroken, cut_once, lines_once}
+use Rattle.py_tree.proofs.Breaks.{are_unbroken, lines_once}
 use Rattle.thin_form.proofs.OneLine.{line_one, line_unbroken}
 use Rattle.thin_form.proofs.Parts.{cell_parts, first_line}
 use Rattle.form_meaning.specs.Thin.{Elements, IsForm, elements_of, are_lines, are_cells, are_thin, line_count, line_text, body_lines, cell_lines, decorator_line, definition_line, header, footer, file_lines}

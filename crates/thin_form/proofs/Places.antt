@@ -1,5 +1,5 @@
 -- Lines after lines.
-use Rattle.std.proofs.Common.{◌≡◌, ℕ, ◌+◌, List, [], ◌∷◌, ◌++◌, refl, sym, ap, ◌∙◌, append_assoc, length-append, arith}
+use Rattle.std.proofs.Common.{ℕ, ◌+◌, List, [], ◌++◌, refl, sym, ap, ◌∙◌, append_assoc, length-append, arith}
 use Rattle.thin_form.specs.FileParts.{At, IsPast}
 use Rattle.py_tree.specs.TextLines.{text_of}
 use Rattle.py_tree.proofs.Breaks.{text-append}

@@ -3,7 +3,7 @@ use Rattle.std.proofs.Common.{◌≡◌, ℕ, ◌<◌, List, [], ◌∷◌, ◌+
 use Rattle.std.specs.Prelude.{codes}
 use Rattle.std.specs.List.{join_with_byte}
 use Rattle.form_meaning.specs.Thin.{tree_text, names_text, head_text}
-use Rattle.py_tree.specs.Trees.{Tree, literal, name, sum, attribute, call, Trees, none, more, Head, value, assign, import_mo}
+use Rattle.py_tree.specs.Trees.{Tree, sum, call, Trees, none, more, Head, value, assign, import_mo}
 
 -- the words of a call, of which one with two arguments has two
 abbrev pub call_words : Tree → Trees → List (List ℕ)

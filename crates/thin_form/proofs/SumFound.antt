@@ -9,7 +9,7 @@ use Rattle.thin_form.specs.Words.{without_back}
 use Rattle.form_meaning.specs.Thin.{Elements, is_term, is_chain, is_sum, terms, tree_text}
 use Rattle.py_tree.specs.Names.{is_name}
 use Rattle.py_tree.specs.Numbers.{is_number}
-use Rattle.py_tree.specs.Trees.{Tree, literal, name, sum, attribute, call}
+use Rattle.py_tree.specs.Trees.{Tree, name, sum, call}
 use Rattle.thin_form.proofs.Ends.{back_on}
 use Rattle.thin_form.proofs.Options.{bind_ok, cond_ok}
 use Rattle.thin_form.proofs.Spellings.{spellings}

@@ -1,6 +1,5 @@
 -- How far a file of the thin form is read.
-use Rattle.std.specs.Prelude.{◌≡◌, ℕ, ◌+◌, ◌<◌, ◌≤◌, Bool, not, ◌==◌, IsTrue, List, [], ◌∷◌, ◌++◌, length, flat_map, sum_by, codes, Option, Result, MatchResult, IsSomeAnd}
-use Rattle.std.specs.List.{list_all}
+use Rattle.std.specs.Prelude.{◌≡◌, ℕ, ◌+◌, ◌<◌, ◌≤◌, Bool, not, IsTrue, List, [], ◌∷◌, ◌++◌, length, flat_map, sum_by, codes, Option, Result, MatchResult, IsSomeAnd}
 use Rattle.std.specs.Global.{Vec}
 use Rattle.thin_form.specs.declared.thin_file.ThinFault.{ThinFault}
 use Rattle.thin_form.specs.declared.thin_file.ThinFault.TheVariants.{Memory}

@@ -7,7 +7,7 @@ use Rattle.thin_form.specs.Sums.{read_sum}
 use Rattle.thin_form.specs.Words.{words, target}
 use Rattle.form_meaning.specs.Thin.{Elements}
 use Rattle.py_tree.specs.Names.{Name, is_name}
-use Rattle.py_tree.specs.Trees.{Tree, literal, name, sum, attribute, call, Head, value, assign, import_mo}
+use Rattle.py_tree.specs.Trees.{Tree, call, Head, value, assign, import_mo}
 
 -- what a name is assigned: a slider where it is the name of one, else a sum
 abbrev pub read_assigned : Elements → Name → List (List ℕ) → Option Tree
