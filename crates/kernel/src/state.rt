@@ -31,7 +31,11 @@ pub struct KernelState<'n> {
 
 impl<'n> KernelState<'n> {
     /// What is kept before the opening.
-    pub fn new(alloc: Global, notebook: &'n Notebook, budget: u64) -> Result<KernelState<'n>, Memory>
+    pub fn new(
+        alloc: Global,
+        notebook: &'n Notebook,
+        budget: u64,
+    ) -> Result<KernelState<'n>, Memory>
         requires { Runnable (view_cells notebook.now) }
         ensures kept { IfOk result (λ state. IsKept state) }
         ensures new { IfOk result (λ state. IsNew notebook.now budget state) }

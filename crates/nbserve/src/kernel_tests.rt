@@ -3,8 +3,8 @@ ghost use Rattle.std.specs.Prelude.{◌≡◌, ◌<◌, IfOk};
 ghost use Rattle.visit_meaning.specs.Runnable.{Runnable};
 ghost use Rattle.py_tree.specs.View.{view_cells};
 
-use crate::loader::load;
 use crate::command_fault::CommandFault;
+use crate::loader::load;
 use cell_graph::Notebook;
 use frames::CellFrame;
 use kernel::{Delivered, Kernel, Stepped};

@@ -3,17 +3,18 @@
 
 ghost use Rattle.std.specs.Prelude.{◌≡◌, ◌<◌};
 
+mod command;
+mod command_fault;
 #[cfg(test)]
 mod kernel_tests;
 pub mod laws;
 mod loader;
 mod refusal;
-mod command_fault;
 #[cfg(test)]
 mod tests;
 mod top;
-mod command;
 
+use command_fault::WANT_OF_MEMORY;
 use link_io::{RealFiles, RealOut};
 use py_eval::Steps;
 use std::env;
@@ -21,7 +22,6 @@ use std::io::ErrorKind;
 use std::marker::Brand;
 use std::process::ExitCode;
 use std::sync::ledger::{Blank, Ledger};
-use command_fault::WANT_OF_MEMORY;
 use top::run_words;
 
 // Runs the program over the files of the system and the standard output. Nothing reads the count of its steps.

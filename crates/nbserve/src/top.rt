@@ -15,9 +15,11 @@ ghost use Rattle.program_meaning.specs.Scripts.{IsNoScript};
 ghost use Rattle.py_tree.specs.Trees.{Cell};
 ghost use Rattle.py_tree.specs.View.{view_cells};
 
-use crate::loader::load;
-use crate::command_fault::{DONE, CommandFault, WANT_OF_MEMORY, WRITE_FAULT, end_stopped, end_with};
 use crate::command::{Command, read_command};
+use crate::command_fault::{
+    CommandFault, DONE, WANT_OF_MEMORY, WRITE_FAULT, end_stopped, end_with,
+};
+use crate::loader::load;
 use cell_graph::Notebook;
 use kernel::OPEN_MESSAGE;
 use link_io::{Files, ReadFault, Sink, read_file};

@@ -15,9 +15,9 @@ ghost use Rattle.py_value.specs.View.{data_of};
 ghost use Rattle.py_value.specs.declared.types.Value.{Value};
 ghost use Rattle.py_value.specs.declared.types.Value.TheVariants as V;
 
+use crate::message::{Message, read_message};
 use crate::pending::{Cells, Pending};
 use crate::state::KernelState;
-use crate::message::{Message, read_message};
 use cell_graph::Notebook;
 use frames::Frame;
 use py_eval::Env;
