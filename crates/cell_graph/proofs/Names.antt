@@ -58,34 +58,6 @@ set_after_insert ks k rest = by (list_any (λ (o : Bor Name). bytes_eq k.now o.n
         ∙ ap (λ names. texts ks ++ k.now ∷ names) (sym (seen_last (texts ks) k.now rest))
         ∙ ap (λ b. texts ks ++ cond b (first_seen_after (texts ks) rest) (k.now ∷ first_seen_after (k.now ∷ texts ks) rest)) (sym e)
 
-absorbed : (a e b f : Bool) → (e ≡ true → a ≡ true) → (a || f) ≡ (a || b) → (a || f) ≡ (a || (e || b))
-absorbed true e b f in_seen h = refl
-absorbed false true b f in_seen h = absurd (cc (in_seen refl))
-absorbed false false b f in_seen h = h
-
-exchanged : (a e b f : Bool) → ((e || a) || f) ≡ ((e || a) || b) → (a || (e || f)) ≡ (a || (e || b))
-exchanged true e b f h = refl
-exchanged false true b f h = refl
-exchanged false false b f h = h
-
--- a name is among those that were seen or first come later where it was seen or comes later
-among_after : (q : Name) (s xs : List Name) → (is_among q s || is_among q (first_seen_after s xs)) ≡ (is_among q s || is_among q xs)
-among_after q s [] = refl
-among_after q s (x ∷ xs) = by (is_among x s) refl (among_after q s xs) (among_after q (x ∷ s) xs)
-  where
-    by : (b : Bool) → is_among x s ≡ b
-        → (is_among q s || is_among q (first_seen_after s xs)) ≡ (is_among q s || is_among q xs)
-        → (is_among q (x ∷ s) || is_among q (first_seen_after (x ∷ s) xs)) ≡ (is_among q (x ∷ s) || is_among q xs)
-        → (is_among q s || is_among q (cond b (first_seen_after s xs) (x ∷ first_seen_after (x ∷ s) xs))) ≡ (is_among q s || is_among q (x ∷ xs))
-    by true e kept added =
-        absorbed (is_among q s) (bytes_eq x q) (is_among q xs) (is_among q (first_seen_after s xs))
-        (λ same. subst (λ y. is_among y s ≡ true) ((bytes_eq-Decides x q).0 same) e) kept
-    by false e kept added = exchanged (is_among q s) (bytes_eq x q) (is_among q xs) (is_among q (first_seen_after (x ∷ s) xs)) added
-
--- each name once are the same names
-pub among_first_seen : (q : Name) (xs : List Name) → is_among q (first_seen xs) ≡ is_among q xs
-among_first_seen q xs = among_after q [] xs
-
 pub filter_alike : {X : Type 0} (f g : X → Bool) → ((x : X) → f x ≡ g x) → (xs : List X) → filter f xs ≡ filter g xs
 filter_alike f g h [] = refl
 filter_alike f g h (x ∷ xs) = λ i. cond (h x i) (x ∷ filter_alike f g h xs i) (filter_alike f g h xs i)

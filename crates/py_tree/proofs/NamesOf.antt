@@ -71,7 +71,8 @@ seen_or x seen [] = refl
 seen_or x seen (y ∷ names) =
     seen_more x y seen names (first_seen_after seen names) (first_seen_after (y ∷ seen) names) (is_among y seen) refl (seen_or x seen names) (seen_or x (y ∷ seen) names)
 
-among_first_seen : (x : Name) (names : List Name) → is_among x (first_seen names) ≡ is_among x names
+-- a name is seen first where it is among the names
+pub among_first_seen : (x : Name) (names : List Name) → is_among x (first_seen names) ≡ is_among x names
 among_first_seen x names = seen_or x [] names
 
 -- ---- the names of a cell

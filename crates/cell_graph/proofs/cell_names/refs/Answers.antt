@@ -5,7 +5,8 @@ use Rattle.py_tree.specs.Names.{Name, first_seen, is_among, is_local, builtins}
 use Rattle.py_tree.specs.Scope as scope
 use Rattle.py_tree.specs.View.{view_block, view_cell}
 use Rattle.cell_graph.specs.Texts.{texts}
-use Rattle.cell_graph.proofs.Names.{texts-filter, among_first_seen, filter_alike}
+use Rattle.py_tree.proofs.NamesOf.{among_first_seen}
+use Rattle.cell_graph.proofs.Names.{texts-filter, filter_alike}
 use Rattle.cell_graph.proofs.cell_names.refs.Goals as goal
 
 pub returns : goal.returns
