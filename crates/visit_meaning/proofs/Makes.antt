@@ -5,7 +5,7 @@ use Rattle.std.specs.Str.{bytes_eq}
 use Rattle.py_tree.specs.Names.{Name}
 use Rattle.py_tree.specs.Trees.{Tree, Trees}
 use Rattle.py_value.specs.ElementData.{ElementData}
-use Rattle.py_value.specs.Elements.{Arguments, Params, Range, at_kept, given, has_text, is_in_range, kind_called, made, number_at, param, range_at, slider, slider_by, slider_of, slider_parameters}
+use Rattle.py_value.specs.Elements.{Arguments, Params, Range, at_kept, has_text, is_in_range, kind_called, made, number_at, param, params_of_call, range_at, slider, slider_by, slider_of, slider_parameters}
 use Rattle.py_value.specs.Maps.{Map, look_up}
 use Rattle.py_value.specs.View.{value_of as value_in}
 use Rattle.py_value.specs.declared.kinds.Kind.{Kind}
@@ -46,7 +46,7 @@ given_plain x None = tt
 given_plain x (Some params) = slider_plain x params (range_at params) (number_at (codes "value") params) (has_text (param (codes "label") params))
 
 pub made_plain : (k : Kind) (x : Name) (args : Arguments) → MadePlain (made k x args)
-made_plain kind.Slider x args = given_plain x (given slider_parameters args)
+made_plain kind.Slider x args = given_plain x (params_of_call slider_parameters args)
 made_plain other x args = tt
 
 pub kept_plain : (o : Option Value) (e : ElementData) → ((v : Value) → o ≡ Some v → is_element v ≡ false) → is_element (value_in e.present) ≡ false
@@ -79,7 +79,7 @@ given_named x None = tt
 given_named x (Some params) = by_named x params (range_at params) (number_at (codes "value") params) (has_text (param (codes "label") params))
 
 made_named : (k : Kind) (x : Name) (args : Arguments) → MadeNamed x (made k x args)
-made_named kind.Slider x args = given_named x (given slider_parameters args)
+made_named kind.Slider x args = given_named x (params_of_call slider_parameters args)
 made_named other x args = tt
 
 -- at the present value that is kept it has the name too
