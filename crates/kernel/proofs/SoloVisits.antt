@@ -9,7 +9,7 @@ use Rattle.py_tree.specs.Trees.{Cell}
 use Rattle.py_tree.specs.View.{view_cells}
 use Rattle.py_tree.specs.declared.tree.CellCode.{CellCode}
 use Rattle.kernel.specs.Visit.{Visit, Gives, Takes, begun}
-use Rattle.kernel.specs.Calls.{Call, Deliver, Step, IsSolo, Leads, given_by, taken_by}
+use Rattle.kernel.specs.Calls.{Call, Deliver, Step, IsSolo, Leads, given_by, newest_after, taken_by}
 use Rattle.kernel.specs.declared.answers.Delivered.TheVariants as delivered
 use Rattle.kernel.specs.declared.answers.Stepped.TheVariants as stepped
 
@@ -19,13 +19,14 @@ use Rattle.kernel.specs.declared.answers.Stepped.TheVariants as stepped
 record GoesOn (nb : List CellCode) (budget : ℕ) (sent : List (List ℕ)) (given : List Frame) (v after : Visit) (count count_after : ℕ) : Type 0 where
   messages : List Message
   are : AreMessages sent messages
+  newest : after.newest ≡ newest_after v.newest given
   frames : given ++ frames_in after.pending ≡ frames_in v.pending ++ solo_from (view_cells nb) budget v.state messages
   state : after.state ≡ state_after (view_cells nb) budget v.state messages
   steps : count_after + cost_of_parts after.pending ≡ count + cost_of_parts v.pending + work_from (view_cells nb) budget v.state messages
 
 -- where nothing is called
 at_end : (nb : List CellCode) (budget : ℕ) (v : Visit) (count : ℕ) → GoesOn nb budget [] [] v v count count
-at_end nb budget v count = record { messages = []; are = tt; frames = sym (append-nil (frames_in v.pending)); state = refl; steps = omega arith }
+at_end nb budget v count = record { messages = []; are = tt; newest = refl; frames = sym (append-nil (frames_in v.pending)); state = refl; steps = omega arith }
 
 -- a message is taken first
 after_taken : (nb : List CellCode) (budget : ℕ) (bytes : List ℕ) (m : Message) (sent : List (List ℕ)) (given : List Frame) (v w after : Visit) (count count_after : ℕ)
@@ -49,6 +50,7 @@ after_taken nb budget bytes m sent given v w after count count_after same_nb sam
     record {
       messages = m ∷ on.messages;
       are = (is, on.are);
+      newest = on.newest ∙ ap (λ kept. newest_after kept given) takes.newest;
       frames = on.frames ∙ frames ∙ sym (ap (λ fs. fs ++ frames_in (a.parts ++ rest)) before);
       state = on.state ∙ ap (λ s. state_after cells budget s on.messages) state;
       steps = omega arith;
@@ -69,6 +71,7 @@ after_given nb budget f sent given v w after count n count_after gives on =
     record {
       messages = on.messages;
       are = on.are;
+      newest = on.newest ∙ ap (λ kept. newest_after kept given) gives.newest;
       frames = ap (λ fs. f ∷ fs) on.frames
           ∙ sym (λ i. frames_in (gives.pending i) ++ solo_from cells budget (sym gives.state i) on.messages);
       state = on.state ∙ ap (λ s. state_after cells budget s on.messages) gives.state;
@@ -102,4 +105,4 @@ pub every_visit : (nb : List CellCode) (budget : ℕ) (calls : List Call) (after
 every_visit nb budget calls after count count_after led =
     let on = goes_on nb budget calls (begun nb budget) after count count_after refl refl led in
     let steps = on.steps in
-    record { messages = on.messages; are = on.are; frames = on.frames; state = on.state; steps = omega arith }
+    record { messages = on.messages; are = on.are; newest = on.newest; frames = on.frames; state = on.state; steps = omega arith }

@@ -1,11 +1,12 @@
 -- Visits from their beginning: what a kernel's calls come to, one after the other.
-use Rattle.std.specs.Prelude.{◌≡◌, ℕ, ◌+◌, List, [], ◌∷◌, ◌++◌}
+use Rattle.std.specs.Prelude.{◌≡◌, ℕ, ◌+◌, List, [], ◌∷◌, ◌++◌, fold, length, replicate, Option, None}
 use Rattle.visit_meaning.specs.Answer.{Before, Message, cost_of_parts, frames_in, solo, state_after, work}
 use Rattle.visit_meaning.specs.Messages.{AreMessages}
+use Rattle.frames.specs.declared.frame.CellFrame.{CellFrame}
 use Rattle.frames.specs.declared.frame.Frame.{Frame}
 use Rattle.py_tree.specs.View.{view_cells}
 use Rattle.py_tree.specs.declared.tree.CellCode.{CellCode}
-use Rattle.kernel.specs.Visit.{Visit, IsDelivery, IsStep}
+use Rattle.kernel.specs.Visit.{Visit, IsDelivery, IsStep, with_frame}
 use Rattle.kernel.specs.declared.answers.Delivered.{Delivered}
 use Rattle.kernel.specs.declared.answers.Delivered.TheVariants as delivered
 use Rattle.kernel.specs.declared.answers.Stepped.{Stepped}
@@ -35,12 +36,17 @@ given_by [] = []
 given_by (Step (stepped.Frame f) ∷ calls) = f ∷ given_by calls
 given_by (call ∷ calls) = given_by calls
 
+-- the newest frame of each cell once these were given, one after the other
+abbrev pub newest_after : List (Option CellFrame) → List Frame → List (Option CellFrame)
+newest_after newest given = fold (λ kept f. with_frame f kept) newest given
+
 -- The frames that were given, and behind them those that are still to come, are those of a visitor alone who sends the messages that were
--- taken; the state is the one to which these lead; and the steps that were counted, with those that the frames to come will cost, are all
--- that the cells cost which run for them.
+-- taken; the newest frame of each cell is the last one that was given of it; the state is the one to which these lead; and the steps that
+-- were counted, with those that the frames to come will cost, are all that the cells cost which run for them.
 pub record IsSolo (nb : List CellCode) (budget : ℕ) (sent : List (List ℕ)) (given : List Frame) (after : Visit) (count count_after : ℕ) : Type 0 where
   pub messages : List Message
   pub are : AreMessages sent messages
   pub frames : given ++ frames_in after.pending ≡ solo (view_cells nb) budget messages
+  pub newest : after.newest ≡ newest_after (replicate (length nb) None) given
   pub state : after.state ≡ state_after (view_cells nb) budget Before messages
   pub steps : count_after + cost_of_parts after.pending ≡ count + work (view_cells nb) budget messages

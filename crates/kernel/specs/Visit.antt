@@ -1,5 +1,5 @@
 -- Visits as contracts see them, and what a delivery and a step do.
-use Rattle.std.specs.Prelude.{◌≡◌, ℕ, ◌+◌, ◌<◌, Bool, true, false, List, [], ◌∷◌, find, length, replicate, set, slice_index_or, Option, Some, None, ◌==◌}
+use Rattle.std.specs.Prelude.{◌≡◌, ℕ, ◌+◌, ◌<◌, ◌≤◌, Bool, true, false, List, [], ◌∷◌, find, length, replicate, set, slice_index_or, Option, Some, None, ◌==◌}
 use Rattle.visit_meaning.specs.Answer.{State, Before, On, Message, Part, answer, refused}
 use Rattle.run_meaning.specs.Meaning.{Env}
 use Rattle.visit_meaning.specs.Messages.{IsMessage}
@@ -88,6 +88,15 @@ pub record Gives (f : Frame) (before after : Visit) (count count_after : ℕ) : 
   pub nb : after.nb ≡ before.nb
   pub budget : after.budget ≡ before.budget
   pub spoiled : after.spoiled ≡ false
+
+-- what the first of these parts costs, if there is one
+abbrev pub first_cost : List Part → ℕ
+first_cost [] = 0
+first_cost (p ∷ ps) = p.cost
+
+-- A count of steps rose by no more than what the first of these parts costs.
+abbrev pub AtMostFirst : List Part → ℕ → ℕ → Type 0
+AtMostFirst parts count count_after = (count ≤ count_after) × (count_after ≤ count + first_cost parts)
 
 -- What a step does: it gives the next frame, and changes nothing where none is to come.
 abbrev pub IsStep : Visit → Visit → ℕ → ℕ → Stepped → Type 0

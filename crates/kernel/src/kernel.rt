@@ -1,7 +1,7 @@
 // The kernel of one visitor.
 ghost use Rattle.std.specs.Prelude.{◌≡◌, [], true, false, IfOk, OnOk, OnErr, IsErr, IsOk, length, option_copied};
 ghost use Rattle.kernel.specs.KernelState.{IsKept, visit_of};
-ghost use Rattle.kernel.specs.Visit.{begun, newest_in, present_in, IsDelivery, IsStep, Stands};
+ghost use Rattle.kernel.specs.Visit.{begun, AtMostFirst, newest_in, present_in, IsDelivery, IsStep, Stands};
 ghost use Rattle.visit_meaning.specs.Runnable.{Runnable};
 ghost use Rattle.py_tree.specs.View.{view_cells};
 
@@ -93,6 +93,7 @@ impl<'n> Kernel<'n> {
         ensures spoiled { self.old.spoiled ≡ true → IsErr result }
         ensures spoils { OnErr result (self.new.spoiled ≡ true) }
         ensures newest { OnErr result (self.new.newest ≡ self.old.newest) }
+        ensures most { AtMostFirst self.old.pending steps.old steps.new }
     {
         if self.spoiled {
             return Err(Memory);

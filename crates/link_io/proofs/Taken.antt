@@ -2,7 +2,7 @@
 use Rattle.std.proofs.Common.{◌≡◌, ◌∙◌, refl, ap, subst, sym, ℕ, ◌+◌, ◌-◌, ◌^◌, ◌≤◌, min, List, [], ◌++◌, append_assoc, append-nil, arith, length, take, drop}
 use Rattle.std.proofs.lemmas.Grind.{common_steps}
 use Rattle.std.specs.Prelude.{Option, Some, None}
-use Rattle.link_io.specs.Outside.{Rose, Took, TookPart}
+use Rattle.link_io.specs.Outside.{Rose, Took, TookLess}
 
 -- one piece after another
 pub took_both : (a b c : Option (List ℕ)) (x y : List ℕ) → Took a b x → Took b c y → Took a c (x ++ y)
@@ -14,21 +14,10 @@ pub took_none : (a : Option (List ℕ)) → Took a a []
 took_none None = tt
 took_none (Some o) = ap (λ z. Some z) (sym (append-nil o))
 
--- a beginning of a text after another text
-pub took_part : (a b c : Option (List ℕ)) (x y : List ℕ) → Took a b x → TookPart b c y → TookPart a c (x ++ y)
-took_part a b c x y f h =
-    (x ++ h.0, h.1, append_assoc x h.0 h.1 ∙ ap (λ z. x ++ z) h.2, took_both a b c x h.0 f h.3)
-
--- a beginning of a text is one of a longer text
-pub part_before : (a b : Option (List ℕ)) (x y : List ℕ) → TookPart a b x → TookPart a b (x ++ y)
-part_before a b x y h = (h.0, h.1 ++ y, sym (append_assoc h.0 h.1 y) ∙ ap (λ z. z ++ y) h.2, h.3)
-
--- a text is a beginning of itself, and so is nothing
-pub part_whole : (a b : Option (List ℕ)) (x : List ℕ) → Took a b x → TookPart a b x
-part_whole a b x f = (x, [], append-nil x, f)
-
-pub part_none : (a : Option (List ℕ)) (x : List ℕ) → TookPart a a x
-part_none a x = ([], x, refl, took_none a)
+-- less than a text, after another text
+pub took_less : (a b c : Option (List ℕ)) (x y : List ℕ) → Took a b x → TookLess b c y → TookLess a c (x ++ y)
+took_less a b c x y f h =
+    (x ++ h.0, h.1, h.2, append_assoc x h.0 h.1 ∙ ap (λ z. x ++ z) h.3, took_both a b c x h.0 f h.4)
 
 -- a rise stays one after an earlier moment
 pub rose_since : (a b c : ℕ) → a ≤ b → Rose b c → Rose a c

@@ -16,9 +16,9 @@ pub record ReadsAt (bytes : List ℕ) (at : ℕ) (before now : List ℕ) (n : �
 abbrev pub Took : Option (List ℕ) → Option (List ℕ) → List ℕ → Type 0
 Took before now text = IfSome before (λ old. now ≡ Some (old ++ text))
 
--- it took a beginning of this text and nothing else
-abbrev pub TookPart : Option (List ℕ) → Option (List ℕ) → List ℕ → Type 0
-TookPart before now text = (part rest : List ℕ) × (part ++ rest ≡ text) × Took before now part
+-- it took a beginning of this text, but not all of it, and nothing else
+abbrev pub TookLess : Option (List ℕ) → Option (List ℕ) → List ℕ → Type 0
+TookLess before now text = (part rest : List ℕ) × (0 < length rest) × (part ++ rest ≡ text) × Took before now part
 
 -- n bytes of the file, from where `before` ends, were appended to it; there are 0 only at the file's end
 pub record HasNext (all before now : List ℕ) (n : ℕ) : Type 0 where

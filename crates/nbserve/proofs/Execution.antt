@@ -1,17 +1,17 @@
 -- Commands that are carried out, step by step.
-use Rattle.std.proofs.Common.{◌≡◌, refl, subst, inl, inr, ℕ, ◌+◌, ◌≤◌, List, ◌++◌, arith}
+use Rattle.std.proofs.Common.{◌≡◌, refl, sym, subst, inl, inr, ℕ, ◌+◌, ◌≤◌, List, [], append-nil, arith}
 use Rattle.std.specs.Prelude.{Option, Some, IfSome, codes}
 use Rattle.link_io.specs.Outside.{Rose, Took}
-use Rattle.link_io.proofs.Taken.{rose_since, took_both, took_part}
-use Rattle.visit_meaning.specs.Answer.{Part, cost_of_parts, frames_in}
+use Rattle.link_io.proofs.Taken.{rose_since, took_both}
+use Rattle.visit_meaning.specs.Answer.{Before, Message, Part, parts_from, solo, work}
 use Rattle.frame_meaning.specs.FrameText.{labelled}
 use Rattle.program_meaning.specs.Program as program
-use Rattle.program_meaning.specs.Program.{Comes, Command, Play, command_of, notebook_of, AreRead, FailsFirst, IsLoaded, Refusal, read_of, refusal_text}
+use Rattle.program_meaning.specs.Program.{Comes, Command, Play, command_of, notebook_of, AreRead, FailsFirst, IsLoaded, Refusal, read_of, refusal_text, usual_budget}
 use Rattle.program_meaning.specs.Scripts.{FaultAt, fault_text}
 use Rattle.py_tree.specs.Trees.{Cell}
-use Rattle.nbserve.specs.Execution.{IsPlayed}
+use Rattle.nbserve.specs.Execution as done
+use Rattle.nbserve.specs.Execution.{IsDone, IsPlayed}
 use Rattle.script_run.specs.Cut as cut
-use Rattle.script_run.specs.Cut.{IsCutOff}
 use Rattle.nbserve.specs.Refusal.{refusal_of}
 use Rattle.nbserve.specs.CommandFault.{IsStopped, IsUnloaded, IsUnplayed, Why}
 use Rattle.nbserve.specs.Output as wrote
@@ -19,24 +19,26 @@ use Rattle.nbserve.specs.Output.{Ended}
 use Rattle.nbserve.specs.declared.command_fault.CommandFault.{CommandFault}
 use Rattle.nbserve.specs.declared.command_fault.CommandFault.TheVariants as stop
 
--- a text after one that was written
-pub ended_after : (text last : List ℕ) (result : ℕ) (before between now : Option (List ℕ)) (a b d : ℕ) → Took before between text → a ≤ b
-    → Ended 0 last result between now (Rose b d) → Ended 0 (text ++ last) result before now (Rose a d)
-ended_after text last result before between now a b d first le (wrote.whole e took) = wrote.whole e (took_both before between now text last first took)
-ended_after text last result before between now a b d first le (wrote.cut e why part) =
-    wrote.cut e (rose_since a b d le why) (took_part before between now text last first part)
-ended_after text last result before between now a b d first le (wrote.unfinished e part) =
-    wrote.unfinished e (took_part before between now text last first part)
-
--- a last text that is cut, after the lines of all frames
-pub cut_in_last : (label last : List ℕ) (parts : List Part) (result : ℕ) (before between now : Option (List ℕ)) (unwritten : Type 0) (count count_after : ℕ)
-    → Took before between (labelled label (frames_in parts)) → count_after ≡ count + cost_of_parts parts
-    → Ended 0 last result between now unwritten → result ≡ 4 → IsCutOff label last parts before now count count_after
-cut_in_last label last parts result before between now unwritten count count_after first steps (wrote.whole e took) four = absurd (omega (arith, e, four))
-cut_in_last label last parts result before between now unwritten count count_after first steps (wrote.cut e why part) four =
-    cut.in_last part.0 part.1 part.2 steps (took_both before between now (labelled label (frames_in parts)) part.0 first part.3)
-cut_in_last label last parts result before between now unwritten count count_after first steps (wrote.unfinished e part) four =
-    absurd (omega (arith, e, four))
+-- a last text after the lines of all frames
+pub done_after : (nb : List Cell) (ms : List Message) (label last : List ℕ) (result : ℕ) (before between now : Option (List ℕ)) (a b d count count_after : ℕ)
+    → Took before between (labelled label (solo nb usual_budget ms)) → count_after ≡ count + work nb usual_budget ms → a ≤ b
+    → Ended 0 last result between now (Rose b d) → IsDone nb ms label last result before now (Rose a d) count count_after
+done_after nb ms label last result before between now a b d count count_after first steps le (wrote.whole e took) =
+    done.whole e (took_both before between now (labelled label (solo nb usual_budget ms)) last first took) steps
+done_after nb ms label last result before between now a b d count count_after first steps le (wrote.cut e why part) =
+    done.cut e (rose_since a b d le why)
+    (cut.in_last part.0 part.1 part.2 part.3 steps (took_both before between now (labelled label (solo nb usual_budget ms)) part.0 first part.4))
+done_after nb ms label last result before between now a b d count count_after first steps le (wrote.wanting e none) =
+    let parts : List Part = parts_from nb usual_budget Before ms in
+    let text = labelled label (solo nb usual_budget ms) in
+    done.front e (record {
+      written = parts;
+      rest = [];
+      are = sym (append-nil parts);
+      least = omega (arith, steps);
+      most = omega (arith, steps);
+      took = subst (Took before now) (append-nil text) (took_both before between now text [] first none);
+    })
 
 -- what tells why stops the run
 stops : (holds : List ℕ → Option (Option (List ℕ))) (failed : Type 0) (words : List (List ℕ)) (unread : Type 0) (refuses : Refusal → Type 0) (lines : ℕ → Type 0)

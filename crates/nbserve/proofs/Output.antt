@@ -4,34 +4,26 @@ use Rattle.std.specs.Prelude.{Option, Some, None, IfSome}
 use Rattle.std.proofs.lemmas.Option.{same_Some}
 use Rattle.link_io.specs.Outside.{Took}
 use Rattle.nbserve.proofs.OneRefusal.{none_refused, one_notebook}
-use Rattle.visit_meaning.specs.Answer.{Before, Message, Open, cost_of_parts, parts_from, work}
+use Rattle.visit_meaning.specs.Answer.{Before, Message, Open, cost_of_parts, frames_in, parts_from, work}
 use Rattle.program_meaning.specs.Program as program
 use Rattle.program_meaning.specs.Program.{Comes, Command, Once, Play, command_of, notebook_of, AreRead, IsAccepted, IsLoaded, IsRefused, Refusal, FailsFirst, read_of, once_text, usual_budget}
 use Rattle.program_meaning.specs.Scripts.{Script, IsScript, IsNoScript, FaultAt, messages_of, script_text}
 use Rattle.py_tree.specs.Trees.{Cell}
 use Rattle.program_meaning.proofs.ScriptTexts as scripts_read
-use Rattle.nbserve.specs.Execution as carried
-use Rattle.nbserve.specs.Execution.{Carried}
+use Rattle.nbserve.specs.Execution as done
+use Rattle.nbserve.specs.Execution.{Carried, IsDone}
 use Rattle.script_run.specs.Cut.{IsCutOff}
+use Rattle.script_run.specs.Front.{IsFront}
+use Rattle.frame_meaning.specs.FrameText.{labelled}
 use Rattle.nbserve.specs.CommandFault.{IsStopped, status_of, stop_line}
 use Rattle.nbserve.specs.Works as works
 use Rattle.nbserve.specs.Works.{Works, label_of, last_of}
-use Rattle.nbserve.specs.Output as wrote
-use Rattle.nbserve.specs.Output.{Wrote, Ended}
+use Rattle.nbserve.specs.Output as output
+use Rattle.nbserve.specs.Output.{Ended, RunsTo}
 use Rattle.nbserve.specs.declared.command_fault.CommandFault.{CommandFault}
 use Rattle.nbserve.specs.declared.command_fault.CommandFault.TheVariants as stop
 
 -- ---- where the run is stopped
-
-pub stopped_wrote : (holds : List ℕ → Option (Option (List ℕ))) (unread unwritten : Type 0) (words : List (List ℕ)) (why : CommandFault) (result : ℕ) (before now : Option (List ℕ)) → IsStopped holds unread words why → Ended (status_of why) (stop_line why) result before now unwritten → (why ≡ stop.Memory → (result ≡ 5) × Took before now []) → Wrote holds unread unwritten words result before now
-stopped_wrote holds unread unwritten words why result before now (inl memory) ended wanting = let none = wanting memory in wrote.wanting none.0 none.1
-stopped_wrote holds unread unwritten words why result before now (inr comes) ended wanting = wrote.ended (status_of why) (stop_line why) comes ended
-
--- where a text of another status was written, the answer isn't 0
-not_done : (status : ℕ) (text : List ℕ) (result : ℕ) (before now : Option (List ℕ)) (unwritten : Type 0) → (status ≡ 0 → ⊥) → Ended status text result before now unwritten → result ≡ 0 → ⊥
-not_done status text result before now unwritten other (wrote.whole e took) zero = other (sym e ∙ zero)
-not_done status text result before now unwritten other (wrote.cut e why part) zero = omega (arith, e, zero)
-not_done status text result before now unwritten other (wrote.unfinished e part) zero = omega (arith, e, zero)
 
 no_stop_is_done : (why : CommandFault) → status_of why ≡ 0 → ⊥
 no_stop_is_done stop.Usage e = omega arith
@@ -40,8 +32,9 @@ no_stop_is_done (stop.Refused why) e = omega arith
 no_stop_is_done (stop.NoScript line) e = omega arith
 no_stop_is_done stop.Memory e = omega arith
 
-pub stopped_not_done : (why : CommandFault) (result : ℕ) (before now : Option (List ℕ)) (unwritten : Type 0) → Ended (status_of why) (stop_line why) result before now unwritten → result ≡ 0 → ⊥
-stopped_not_done why result before now unwritten = not_done (status_of why) (stop_line why) result before now unwritten (no_stop_is_done why)
+pub stopped_runs : (holds : List ℕ → Option (Option (List ℕ))) (unread unwritten : Type 0) (words : List (List ℕ)) (why : CommandFault) (result : ℕ) (before now : Option (List ℕ)) (count count_after : ℕ) → IsStopped holds unread words why → Ended (status_of why) (stop_line why) result before now unwritten → (why ≡ stop.Memory → (result ≡ 5) × Took before now []) → count_after ≡ count → RunsTo holds unread unwritten words result before now count count_after
+stopped_runs holds unread unwritten words why result before now count count_after (inl memory) ended wanting still = let none = wanting memory in output.wanting none.0 none.1 still
+stopped_runs holds unread unwritten words why result before now count count_after (inr comes) ended wanting still = output.stopped (status_of why) (stop_line why) (no_stop_is_done why) comes ended still
 
 -- ---- bytes of files that are told
 
@@ -82,11 +75,6 @@ not_refused holds words a b bytes all nb why h k told r ok first =
 
 -- ---- a command that was carried out
 
-done_or_cut : {text : List ℕ} {status : ℕ} {before now : Option (List ℕ)} {unwritten : Type 0} → Ended 0 text status before now unwritten → (status ≡ 1) ⊎ (status ≡ 2) ⊎ (status ≡ 3) ⊎ (status ≡ 6) → ⊥
-done_or_cut (wrote.whole e took) stopped = grind (arith, e, stopped)
-done_or_cut (wrote.cut e why part) stopped = grind (arith, e, stopped)
-done_or_cut (wrote.unfinished e part) stopped = grind (arith, e, stopped)
-
 -- the notebook that was loaded, and the messages that were played, are those of the words
 opened_parts : (holds : List ℕ → Option (Option (List ℕ))) (words : List (List ℕ)) (f : List ℕ) (n nb : List Cell) (ms : List Message) → command_of words ≡ Some (Once f) → IsLoaded holds f n → Works holds words nb ms → parts_from n usual_budget Before (Open ∷ []) ≡ parts_from nb usual_budget Before ms
 opened_parts holds words f n nb ms a l (works.once file all asked told ok sent) =
@@ -103,32 +91,31 @@ played_parts holds words f s bytes n played nb ms a l r i (works.play file scrip
     ap (λ cells. parts_from cells usual_budget Before (messages_of played)) same
     ∙ ap (λ script. parts_from nb usual_budget Before (messages_of script)) one ∙ ap (parts_from nb usual_budget Before) (sym sent)
 
-module _ {holds : List ℕ → Option (Option (List ℕ))} {words : List (List ℕ)} {status : ℕ} {before now : Option (List ℕ)} {unwritten : Type 0} {count count_after : ℕ} where
-  pub carried_wrote : (unread : Type 0) → Carried holds words status before now unwritten count count_after → Wrote holds unread unwritten words status before now
-  carried_wrote unread (carried.opened file nb asked loaded done) = wrote.ended 0 (once_text nb ++ []) (program.opened file nb asked loaded refl (append-nil (once_text nb))) done.ended
-  carried_wrote unread (carried.played file script nb asked loaded p) =
-      wrote.ended 0 (script_text nb usual_budget p.said) (program.played file script p.bytes nb p.said asked loaded p.read p.is refl refl) p.done.ended
+module _ (holds : List ℕ → Option (Option (List ℕ))) (words : List (List ℕ)) (status : ℕ) (before now : Option (List ℕ)) (unwritten : Type 0) (count count_after : ℕ) where
+  -- what was done for a command whose notebook and messages are told
+  IsDoneFor : Command → List Cell → List Message → Type 0
+  IsDoneFor asked nb ms = IsDone nb ms (label_of asked) (last_of asked) status before now unwritten count count_after
 
-  -- no test stopped it
-  pub carried_done : Carried holds words status before now unwritten count count_after → (status ≡ 1) ⊎ (status ≡ 2) ⊎ (status ≡ 3) ⊎ (status ≡ 6) → ⊥
-  carried_done (carried.opened file nb asked loaded done) = done_or_cut done.ended
-  carried_done (carried.played file script nb asked loaded p) = done_or_cut p.done.ended
+  -- the messages of a command lead to the same parts
+  same_done : (asked : Command) (n nb : List Cell) (sent ms : List Message) → parts_from n usual_budget Before sent ≡ parts_from nb usual_budget Before ms
+      → IsDone n sent (label_of asked) (last_of asked) status before now unwritten count count_after → IsDoneFor asked nb ms
+  same_done asked n nb sent ms same (done.whole e took steps) =
+      done.whole e (subst (λ parts. Took before now (labelled (label_of asked) (frames_in parts) ++ last_of asked)) same took)
+      (steps ∙ ap (λ parts. count + cost_of_parts parts) same)
+  same_done asked n nb sent ms same (done.cut e why cut) =
+      done.cut e why (subst (λ parts. IsCutOff (label_of asked) (last_of asked) parts before now count count_after) same cut)
+  same_done asked n nb sent ms same (done.front e front) =
+      done.front e (subst (λ parts. IsFront (label_of asked) parts before now count count_after) same front)
 
-  -- the steps of its messages are counted
-  pub carried_steps : Carried holds words status before now unwritten count count_after → status ≡ 0 → (nb : List Cell) (ms : List Message) → Works holds words nb ms → count_after ≡ count + work nb usual_budget ms
-  carried_steps (carried.opened f n a l done) zero nb ms can = done.steps zero ∙ ap (λ parts. count + cost_of_parts parts) (opened_parts holds words f n nb ms a l can)
-  carried_steps (carried.played f s n a l p) zero nb ms can =
-      p.done.steps zero ∙ ap (λ parts. count + cost_of_parts parts) (played_parts holds words f s p.bytes n p.said nb ms a l p.read p.is can)
-
-  -- its text is cut where a write failed
-  pub carried_cut : Carried holds words status before now unwritten count count_after → status ≡ 4 → (asked : Command) (nb : List Cell) (ms : List Message) → command_of words ≡ Some asked → Works holds words nb ms → IsCutOff (label_of asked) (last_of asked) (parts_from nb usual_budget Before ms) before now count count_after
-  carried_cut (carried.opened f n a l done) four asked nb ms h can =
-      subst (λ command. IsCutOff (label_of command) (last_of command) (parts_from nb usual_budget Before ms) before now count count_after) (same_Some (Once f) asked (sym a ∙ h))
-      (subst (λ parts. IsCutOff [] [] parts before now count count_after) (opened_parts holds words f n nb ms a l can) (done.cut four))
-  carried_cut (carried.played f s n a l p) four asked nb ms h can =
-      subst (λ command. IsCutOff (label_of command) (last_of command) (parts_from nb usual_budget Before ms) before now count count_after) (same_Some (Play f s) asked (sym a ∙ h))
-      (subst (λ parts. IsCutOff (label_of (Play f s)) (last_of (Play f s)) parts before now count count_after)
-      (played_parts holds words f s p.bytes n p.said nb ms a l p.read p.is can) (p.done.cut four))
+  -- a command that was carried out is that of the words
+  carried_done : Carried holds words status before now unwritten count count_after → (asked : Command) (nb : List Cell) (ms : List Message)
+      → command_of words ≡ Some asked → Works holds words nb ms → IsDoneFor asked nb ms
+  carried_done (done.opened f n a l is) asked nb ms h can =
+      subst (λ command. IsDoneFor command nb ms) (same_Some (Once f) asked (sym a ∙ h))
+      (same_done (Once f) n nb (Open ∷ []) ms (opened_parts holds words f n nb ms a l can) is)
+  carried_done (done.played f s n a l p) asked nb ms h can =
+      subst (λ command. IsDoneFor command nb ms) (same_Some (Play f s) asked (sym a ∙ h))
+      (same_done (Play f s) n nb (messages_of p.said) ms (played_parts holds words f s p.bytes n p.said nb ms a l p.read p.is can) p.done)
 
 -- ---- what a run comes to
 
@@ -195,62 +182,140 @@ module _ (holds : List ℕ → Option (Option (List ℕ))) (unread : Type 0) (wo
   comes_no_script (program.unread command a f e t) file script all shown nb asked told ok there never = inr e
   comes_no_script (program.no_script f s bytes n line a l r stops e t) file script all shown nb asked told ok there never = inl e
 
--- where a command that can be carried out is stopped and no read failed, memory is wanting, and no write failed
-pub stopped_not_cut : (holds : List ℕ → Option (Option (List ℕ))) (unread : Type 0) (words : List (List ℕ)) (why : CommandFault) (result : ℕ) → IsStopped holds unread words why → (why ≡ stop.Memory → result ≡ 5) → result ≡ 4 → (nb : List Cell) (ms : List Message) → Works holds words nb ms → (unread → ⊥) → ⊥
-stopped_not_cut holds unread words why result (inl memory) wanting four nb ms can read = let five = wanting memory in omega (arith, four, five)
-stopped_not_cut holds unread words why result (inr comes) wanting four nb ms can read =
-    ⊎_elim (no_stop_is_done why) (λ three. read (comes_read holds unread words (status_of why) (stop_line why) comes three))
-    (comes_works holds unread words (status_of why) (stop_line why) comes nb ms can)
-
 -- ---- what was written tells of the status
 
-module _ (holds : List ℕ → Option (Option (List ℕ))) (unread unwritten : Type 0) (words : List (List ℕ)) (status : ℕ) (before now : Option (List ℕ)) where
+-- a command that was carried out comes to 0, or a write failed, or memory was wanting
+done_to : {nb : List Cell} {ms : List Message} {label last : List ℕ} {status : ℕ} {before now : Option (List ℕ)} {unwritten : Type 0} {count count_after : ℕ}
+    → IsDone nb ms label last status before now unwritten count count_after → (status ≡ 0) ⊎ ((status ≡ 4) × unwritten) ⊎ (status ≡ 5)
+done_to (done.whole e took steps) = inl e
+done_to (done.cut e why cut) = inr (inl (e, why))
+done_to (done.front e front) = inr (inr e)
+
+-- what it comes to then
+pub carried_comes : {holds : List ℕ → Option (Option (List ℕ))} {words : List (List ℕ)} {status : ℕ} {before now : Option (List ℕ)} {unwritten : Type 0} {count count_after : ℕ}
+    → (unread : Type 0) → Carried holds words status before now unwritten count count_after
+    → (text : List ℕ) × Comes holds unread words 0 text × ((status ≡ 0) ⊎ ((status ≡ 4) × unwritten) ⊎ (status ≡ 5))
+carried_comes unread (done.opened file nb asked loaded is) = (once_text nb, program.opened file nb asked loaded refl refl, done_to is)
+carried_comes unread (done.played file script nb asked loaded p) =
+    (script_text nb usual_budget p.said, program.played file script p.bytes nb p.said asked loaded p.read p.is refl refl, done_to p.done)
+
+module _ (holds : List ℕ → Option (Option (List ℕ))) (unread unwritten : Type 0) (words : List (List ℕ)) (status : ℕ) (before now : Option (List ℕ)) (count count_after : ℕ) where
+  Runs : Type 0
+  Runs = RunsTo holds unread unwritten words status before now count count_after
+
   -- the status is one that the run comes to, or a write failed, or memory was wanting
-  come_to : (P : ℕ → Type 0) → ((come : ℕ) (text : List ℕ) → Comes holds unread words come text → P come) → Wrote holds unread unwritten words status before now → P status ⊎ ((status ≡ 4) × unwritten) ⊎ (status ≡ 5)
-  come_to P each (wrote.ended come text comes (wrote.whole e took)) = inl (subst P (sym e) (each come text comes))
-  come_to P each (wrote.ended come text comes (wrote.cut e why part)) = inr (inl (e, why))
-  come_to P each (wrote.ended come text comes (wrote.unfinished e part)) = inr (inr e)
-  come_to P each (wrote.wanting e took) = inr (inr e)
+  come_to : (P : ℕ → Type 0) → ((come : ℕ) (text : List ℕ) → Comes holds unread words come text → P come) → Runs → P status ⊎ ((status ≡ 4) × unwritten) ⊎ (status ≡ 5)
+  come_to P each (output.carried c) =
+      let comes = carried_comes unread c in
+      ⊎_elim (λ e. inl (subst P (sym e) (each 0 comes.0 comes.1))) (λ fault. inr fault) comes.2
+  come_to P each (output.stopped come text other comes (output.whole e took) still) = inl (subst P (sym e) (each come text comes))
+  come_to P each (output.stopped come text other comes (output.cut e why part) still) = inr (inl (e, why))
+  come_to P each (output.stopped come text other comes (output.wanting e none) still) = inr (inr e)
+  come_to P each (output.wanting e none still) = inr (inr e)
 
   -- one of two statuses, or a fault
-  come_to_one : (a : ℕ) → ((come : ℕ) (text : List ℕ) → Comes holds unread words come text → (come ≡ a) ⊎ (come ≡ 3)) → Wrote holds unread unwritten words status before now → (status ≡ a) ⊎ (status ≡ 3) ⊎ (status ≡ 4) ⊎ (status ≡ 5)
+  come_to_one : (a : ℕ) → ((come : ℕ) (text : List ℕ) → Comes holds unread words come text → (come ≡ a) ⊎ (come ≡ 3)) → Runs → (status ≡ a) ⊎ (status ≡ 3) ⊎ (status ≡ 4) ⊎ (status ≡ 5)
   come_to_one a each w =
       ⊎_elim (λ one. ⊎_elim (λ is. inl is) (λ read. inr (inl read)) one) (λ fault. ⊎_elim (λ write. inr (inr (inl write.0))) (λ memory. inr (inr (inr memory))) fault)
       (come_to (λ come. (come ≡ a) ⊎ (come ≡ 3)) each w)
 
-  pub wrote_range : Wrote holds unread unwritten words status before now → status ≤ 6
-  wrote_range w =
+  pub runs_range : Runs → status ≤ 6
+  runs_range w =
       ⊎_elim (λ is. is) (λ fault. ⊎_elim (λ write. let four = write.0 in omega (arith, four)) (λ memory. omega (arith, memory)) fault)
       (come_to (λ come. come ≤ 6) (λ come text comes. (comes_range holds unread words come text comes).0) w)
 
   -- a read fault has its cause, and so has a write fault
-  pub wrote_read : Wrote holds unread unwritten words status before now → status ≡ 3 → unread
-  wrote_read w h =
+  pub runs_read : Runs → status ≡ 3 → unread
+  runs_read w h =
       ⊎_elim (λ cause. cause h) (λ fault. ⊎_elim (λ write. let four = write.0 in absurd (omega (arith, four, h))) (λ memory. absurd (omega (arith, memory, h))) fault)
       (come_to (λ come. come ≡ 3 → unread) (comes_read holds unread words) w)
 
-  pub wrote_write : Wrote holds unread unwritten words status before now → status ≡ 4 → unwritten
-  wrote_write w h =
+  pub runs_write : Runs → status ≡ 4 → unwritten
+  runs_write w h =
       ⊎_elim (λ other. absurd (other h)) (λ fault. ⊎_elim (λ write. write.1) (λ memory. absurd (omega (arith, memory, h))) fault)
       (come_to (λ come. come ≡ 4 → ⊥) (λ come text comes. (comes_range holds unread words come text comes).1) w)
 
-  pub wrote_usage : Wrote holds unread unwritten words status before now → command_of words ≡ None → (status ≡ 2) ⊎ (status ≡ 4) ⊎ (status ≡ 5)
-  wrote_usage w h =
+  pub runs_usage : Runs → command_of words ≡ None → (status ≡ 2) ⊎ (status ≡ 4) ⊎ (status ≡ 5)
+  runs_usage w h =
       ⊎_elim (λ is. inl is) (λ fault. ⊎_elim (λ write. inr (inl write.0)) (λ memory. inr (inr memory)) fault)
       (come_to (λ come. come ≡ 2) (λ come text comes. comes_usage holds unread words come text comes h) w)
 
-  pub wrote_accepted : Wrote holds unread unwritten words status before now → (nb : List Cell) (ms : List Message) → Works holds words nb ms → (status ≡ 0) ⊎ (status ≡ 3) ⊎ (status ≡ 4) ⊎ (status ≡ 5)
-  wrote_accepted w nb ms can = come_to_one 0 (λ come text comes. comes_works holds unread words come text comes nb ms can) w
+  pub runs_accepted : Runs → (nb : List Cell) (ms : List Message) → Works holds words nb ms → (status ≡ 0) ⊎ (status ≡ 3) ⊎ (status ≡ 4) ⊎ (status ≡ 5)
+  runs_accepted w nb ms can = come_to_one 0 (λ come text comes. comes_works holds unread words come text comes nb ms can) w
 
-  pub wrote_refused : Wrote holds unread unwritten words status before now → (asked : Command) (all : List ℕ) → command_of words ≡ Some asked → holds (notebook_of asked) ≡ Some (Some all) → IsRefused (read_of all) → (status ≡ 1) ⊎ (status ≡ 3) ⊎ (status ≡ 4) ⊎ (status ≡ 5)
-  wrote_refused w command all asked told never = come_to_one 1 (λ come text comes. comes_refused holds unread words come text comes command all asked told never) w
+  pub runs_refused : Runs → (asked : Command) (all : List ℕ) → command_of words ≡ Some asked → holds (notebook_of asked) ≡ Some (Some all) → IsRefused (read_of all) → (status ≡ 1) ⊎ (status ≡ 3) ⊎ (status ≡ 4) ⊎ (status ≡ 5)
+  runs_refused w command all asked told never = come_to_one 1 (λ come text comes. comes_refused holds unread words come text comes command all asked told never) w
 
-  pub wrote_no_script : Wrote holds unread unwritten words status before now → (file script all shown : List ℕ) (nb : List Cell) → command_of words ≡ Some (Play file script) → holds file ≡ Some (Some all) → IsAccepted (read_of all) nb → holds script ≡ Some (Some shown) → IsNoScript (read_of shown) → (status ≡ 6) ⊎ (status ≡ 3) ⊎ (status ≡ 4) ⊎ (status ≡ 5)
-  wrote_no_script w file script all shown nb asked told ok there never =
+  pub runs_no_script : Runs → (file script all shown : List ℕ) (nb : List Cell) → command_of words ≡ Some (Play file script) → holds file ≡ Some (Some all) → IsAccepted (read_of all) nb → holds script ≡ Some (Some shown) → IsNoScript (read_of shown) → (status ≡ 6) ⊎ (status ≡ 3) ⊎ (status ≡ 4) ⊎ (status ≡ 5)
+  runs_no_script w file script all shown nb asked told ok there never =
       come_to_one 6 (λ come text comes. comes_no_script holds unread words come text comes file script all shown nb asked told ok there never) w
 
   -- where no fault came, a command that can be carried out is, or memory is wanting
-  pub wrote_complete : Wrote holds unread unwritten words status before now → (nb : List Cell) (ms : List Message) → Works holds words nb ms → (unread → ⊥) → (unwritten → ⊥) → (status ≡ 0) ⊎ (status ≡ 5)
-  wrote_complete w nb ms can read write =
-      ⊎_elim (λ done. inl done) (λ fault. ⊎_elim (λ three. absurd (read (wrote_read w three))) (λ other. ⊎_elim (λ four. absurd (write (wrote_write w four))) (λ memory. inr memory) other) fault)
-      (wrote_accepted w nb ms can)
+  pub runs_complete : Runs → (nb : List Cell) (ms : List Message) → Works holds words nb ms → (unread → ⊥) → (unwritten → ⊥) → (status ≡ 0) ⊎ (status ≡ 5)
+  runs_complete w nb ms can read write =
+      ⊎_elim (λ done. inl done) (λ fault. ⊎_elim (λ three. absurd (read (runs_read w three))) (λ other. ⊎_elim (λ four. absurd (write (runs_write w four))) (λ memory. inr memory) other) fault)
+      (runs_accepted w nb ms can)
+
+  -- ---- what was counted, and where the text ends
+
+  -- the command that works is one of the words
+  asked_for : (nb : List Cell) (ms : List Message) → Works holds words nb ms → (asked : Command) × (command_of words ≡ Some asked)
+  asked_for nb ms (works.once file all asked told ok sent) = (Once file, asked)
+  asked_for nb ms (works.play file script all text said asked told ok shown is sent) = (Play file script, asked)
+
+  done_steps : (asked : Command) (nb : List Cell) (ms : List Message) → IsDoneFor holds words status before now unwritten count count_after asked nb ms → status ≡ 0 → count_after ≡ count + work nb usual_budget ms
+  done_steps asked nb ms (done.whole e took steps) zero = steps
+  done_steps asked nb ms (done.cut e why cut) zero = absurd (omega (arith, e, zero))
+  done_steps asked nb ms (done.front e front) zero = absurd (omega (arith, e, zero))
+
+  done_cut : (asked : Command) (nb : List Cell) (ms : List Message) → IsDoneFor holds words status before now unwritten count count_after asked nb ms → status ≡ 4
+      → IsCutOff (label_of asked) (last_of asked) (parts_from nb usual_budget Before ms) before now count count_after
+  done_cut asked nb ms (done.whole e took steps) four = absurd (omega (arith, e, four))
+  done_cut asked nb ms (done.cut e why cut) four = cut
+  done_cut asked nb ms (done.front e front) four = absurd (omega (arith, e, four))
+
+  done_front : (asked : Command) (nb : List Cell) (ms : List Message) → IsDoneFor holds words status before now unwritten count count_after asked nb ms → status ≡ 5
+      → IsFront (label_of asked) (parts_from nb usual_budget Before ms) before now count count_after
+  done_front asked nb ms (done.whole e took steps) five = absurd (omega (arith, e, five))
+  done_front asked nb ms (done.cut e why cut) five = absurd (omega (arith, e, five))
+  done_front asked nb ms (done.front e front) five = front
+
+  -- where nothing was written and nothing counted, that is a front
+  none_front : (asked : Command) (nb : List Cell) (ms : List Message) → Took before now [] → count_after ≡ count → IsFront (label_of asked) (parts_from nb usual_budget Before ms) before now count count_after
+  none_front asked nb ms none still =
+      record { written = []; rest = parts_from nb usual_budget Before ms; are = refl; least = omega (arith, still); most = omega (arith, still); took = none }
+
+  pub runs_steps : Runs → status ≡ 0 → (nb : List Cell) (ms : List Message) → Works holds words nb ms → count_after ≡ count + work nb usual_budget ms
+  runs_steps (output.carried c) zero nb ms can =
+      let asked = asked_for nb ms can in
+      done_steps asked.0 nb ms (carried_done holds words status before now unwritten count count_after c asked.0 nb ms asked.1 can) zero
+  runs_steps (output.stopped come text other comes (output.whole e took) still) zero nb ms can = absurd (other (sym e ∙ zero))
+  runs_steps (output.stopped come text other comes (output.cut e why part) still) zero nb ms can = absurd (omega (arith, e, zero))
+  runs_steps (output.stopped come text other comes (output.wanting e none) still) zero nb ms can = absurd (omega (arith, e, zero))
+  runs_steps (output.wanting e none still) zero nb ms can = absurd (omega (arith, e, zero))
+
+  pub runs_cut : Runs → status ≡ 4 → (asked : Command) (nb : List Cell) (ms : List Message) → command_of words ≡ Some asked → Works holds words nb ms → (unread → ⊥)
+      → IsCutOff (label_of asked) (last_of asked) (parts_from nb usual_budget Before ms) before now count count_after
+  runs_cut (output.carried c) four asked nb ms h can read =
+      done_cut asked nb ms (carried_done holds words status before now unwritten count count_after c asked nb ms h can) four
+  runs_cut (output.stopped come text other comes ended still) four asked nb ms h can read =
+      absurd (⊎_elim other (λ three. read (comes_read holds unread words come text comes three)) (comes_works holds unread words come text comes nb ms can))
+  runs_cut (output.wanting e none still) four asked nb ms h can read = absurd (omega (arith, e, four))
+
+  pub runs_front : Runs → status ≡ 5 → (asked : Command) (nb : List Cell) (ms : List Message) → command_of words ≡ Some asked → Works holds words nb ms
+      → IsFront (label_of asked) (parts_from nb usual_budget Before ms) before now count count_after
+  runs_front (output.carried c) five asked nb ms h can =
+      done_front asked nb ms (carried_done holds words status before now unwritten count count_after c asked nb ms h can) five
+  runs_front (output.stopped come text other comes (output.whole e took) still) five asked nb ms h can =
+      absurd (⊎_elim other (λ three. omega (arith, e, five, three)) (comes_works holds unread words come text comes nb ms can))
+  runs_front (output.stopped come text other comes (output.cut e why part) still) five asked nb ms h can = absurd (omega (arith, e, five))
+  runs_front (output.stopped come text other comes (output.wanting e none) still) five asked nb ms h can = none_front asked nb ms none still
+  runs_front (output.wanting e none still) five asked nb ms h can = none_front asked nb ms none still
+
+  -- where a test isn't passed, no step was counted
+  pub runs_unrun : Runs → (status ≡ 1) ⊎ (status ≡ 2) ⊎ (status ≡ 3) ⊎ (status ≡ 6) → count_after ≡ count
+  runs_unrun (output.carried c) one =
+      let comes = (carried_comes unread c).2 in
+      absurd (⊎_elim (λ e. grind (arith, e, one)) (λ fault. ⊎_elim (λ write. let four = write.0 in grind (arith, four, one)) (λ memory. grind (arith, memory, one)) fault) comes)
+  runs_unrun (output.stopped come text other comes ended still) one = still
+  runs_unrun (output.wanting e none still) one = still

@@ -1,7 +1,9 @@
 //! The program that serves notebooks.
 #![tactic(auto)]
 
-ghost use Rattle.std.specs.Prelude.{◌≡◌, ◌<◌};
+ghost use Rattle.std.specs.Prelude.{◌≡◌, ◌<◌, map, string_bytes};
+ghost use Rattle.std.specs.Process.{exit_status};
+ghost use Rattle.nbserve.specs.Process.{AnswersFor, EndsWith};
 
 mod command;
 mod command_fault;
@@ -27,6 +29,7 @@ use top::run_words;
 // Runs the program over the files of the system and the standard output. Nothing reads the count of its steps.
 fn run_really<L: Ledger>(rt: &HostRuntime, words: &[String], blank: Blank) -> u8
     requires { (blank.name ≡ L.name) × (blank.parts ≡ L.parts) × (0 < blank.parts) }
+    ensures { AnswersFor (map string_bytes words.now) result }
 {
     let mut files = RealFiles::new(rt);
     let mut out = RealOut::new(rt);
@@ -51,10 +54,19 @@ fn words_of(rt: &HostRuntime) -> Option<Vec<String>> {
     Some(words)
 }
 
-fn main(rt: HostRuntime) -> ExitCode {
+// The process ends with the status.
+fn end_process(status: u8) -> ExitCode
+    ensures { exit_status result ≡ status }
+{
+    ExitCode::from(status)
+}
+
+fn main(rt: HostRuntime) -> ExitCode
+    ensures { EndsWith (exit_status result) }
+{
     let status = match words_of(&rt) {
         Some(words) => run_really::<Brand>(&rt, words.as_slice(), Blank::new(1)),
         None => WANT_OF_MEMORY,
     };
-    ExitCode::from(status)
+    end_process(status)
 }

@@ -3,9 +3,10 @@ ghost use Rattle.std.specs.Prelude.{◌≡◌, ◌⊎◌, ℕ, ◌+◌, ◌≤�
 ghost use Rattle.link_io.specs.Outside.{Rose};
 ghost use Rattle.nbserve.specs.Execution.{Carried, IsDone, IsPlayed};
 ghost use Rattle.script_run.specs.Cut.{IsCutOff};
+ghost use Rattle.script_run.specs.Front.{IsFront};
 ghost use Rattle.nbserve.specs.CommandFault.{IsStopped, IsUnloaded, IsUnplayed, IsUnread};
 ghost use Rattle.nbserve.specs.Works.{Works, label_of, last_of};
-ghost use Rattle.nbserve.specs.Output.{Wrote};
+ghost use Rattle.nbserve.specs.Output.{RunsTo};
 ghost use Rattle.visit_meaning.specs.Answer.{Before, Message, parts_from, work};
 ghost use Rattle.visit_meaning.specs.Messages.{AreMessages};
 ghost use Rattle.program_meaning.specs.Program as program;
@@ -108,6 +109,8 @@ fn perform_script<F: Files, O: Sink, L: Ledger>(
         (Rose (F.faults files.old) (F.faults files.new)) file.now why) }
     ensures kept { OnErr result (out.new ≡ out.old) }
     ensures still { OnErr result (steps.new ≡ steps.old) }
+    ensures same { (other : List ℕ) → F.holds files.new other ≡ F.holds files.old other }
+    ensures later { F.faults files.old ≤ F.faults files.new }
 {
     let bytes = bytes_in(alloc, files, file)?;
     let messages = read_script(alloc, bytes.as_slice())?;
@@ -138,8 +141,11 @@ fn carry_out<F: Files, O: Sink, L: Ledger>(
     ensures stopped { IfErr result
         (λ why. IsStopped (F.holds files.old) (Rose (F.faults files.old) (F.faults files.new))
         (map string_bytes words.now) why) }
+    ensures untouched { command_of (map string_bytes words.now) ≡ None → files.new ≡ files.old }
     ensures kept { OnErr result (out.new ≡ out.old) }
     ensures still { OnErr result (steps.new ≡ steps.old) }
+    ensures same { (other : List ℕ) → F.holds files.new other ≡ F.holds files.old other }
+    ensures later { F.faults files.old ≤ F.faults files.new }
 {
     let Some(command) = read_command(words) else {
         return Err(CommandFault::Usage);
@@ -168,14 +174,20 @@ pub fn run_words<F: Files, O: Sink, L: Ledger>(
     out: &mut O,
     steps: &mut Steps<L>,
 ) -> u8
-    ensures range { result ≤ 6 }
-
-    // What was written: the frames of the opening or the text of the script at 0, why the notebook is refused at 1, `usage` at 2,
-    // `read fault` at 3, why the bytes of the script are none at 6, and a beginning of one of these at 4 and 5. It also says what 0, 1, 2
-    // and 6 tell of the words and of the files.
-    ensures wrote { Wrote (F.holds files.old) (Rose (F.faults files.old) (F.faults files.new))
+    // What it comes to, whatever is told and whatever fails: the text that was written, and the steps that were counted. At 0 these are the
+    // frames of the opening or the text of the script, at 1 why the notebook is refused, at 2 `usage`, at 3 `read fault`, at 6 why the bytes
+    // of the script are none; at 4 less than one of these, cut where the write failed; at 5 whole lines of frames, or nothing.
+    ensures runs { RunsTo (F.holds files.old) (Rose (F.faults files.old) (F.faults files.new))
         (Rose (O.faults out.old) (O.faults out.new))
-        (map string_bytes words.now) result (O.taken out.old) (O.taken out.new) }
+        (map string_bytes words.now) result (O.taken out.old) (O.taken out.new) steps.old steps.new }
+
+    // What names of files stand for stays, and the count of read faults doesn't fall. Words that are no form touch no file.
+    ensures same { (other : List ℕ) → F.holds files.new other ≡ F.holds files.old other }
+    ensures later { F.faults files.old ≤ F.faults files.new }
+    ensures untouched { command_of (map string_bytes words.now) ≡ None → files.new ≡ files.old }
+
+    // All below follows from these. A status is one of seven.
+    ensures range { result ≤ 6 }
 
     // A fault has its cause.
     ensures read { result ≡ 3 → Rose (F.faults files.old) (F.faults files.new) }
@@ -203,12 +215,19 @@ pub fn run_words<F: Files, O: Sink, L: Ledger>(
         → steps.new ≡ steps.old + work nb usual_budget ms }
 
     // Where a write fails and no count of read faults rises, a command that can be carried out is cut at the line of the last frame that a
-    // step gave, or in its last line: all before it was written, and no later steps are counted.
+    // step gave, or in its last line: all before it was written, not all of it was, and no later steps are counted.
     ensures cut { result ≡ 4 → (asked : program.Command) (nb : List Cell) (ms : List Message)
         → command_of (map string_bytes words.now) ≡ Some asked
         → Works (F.holds files.old) (map string_bytes words.now) nb ms
         → (Rose (F.faults files.old) (F.faults files.new) → ⊥)
         → IsCutOff (label_of asked) (last_of asked) (parts_from nb usual_budget Before ms)
+        (O.taken out.old) (O.taken out.new) steps.old steps.new }
+
+    // Where memory is wanting, whole lines of a front of its frames were written, and nothing else.
+    ensures front { result ≡ 5 → (asked : program.Command) (nb : List Cell) (ms : List Message)
+        → command_of (map string_bytes words.now) ≡ Some asked
+        → Works (F.holds files.old) (map string_bytes words.now) nb ms
+        → IsFront (label_of asked) (parts_from nb usual_budget Before ms)
         (O.taken out.old) (O.taken out.new) steps.old steps.new }
 
     // A notebook that isn't accepted is refused, unless a fault comes or memory is wanting.
@@ -224,7 +243,7 @@ pub fn run_words<F: Files, O: Sink, L: Ledger>(
         → F.holds files.old script ≡ Some (Some text) → IsNoScript (read_of text)
         → (result ≡ 6) ⊎ (result ≡ 3) ⊎ (result ≡ 4) ⊎ (result ≡ 5) }
 
-    // No step is counted before all tests are passed.
+    // No step is counted where a test isn't passed.
     ensures unrun { (result ≡ 1) ⊎ (result ≡ 2) ⊎ (result ≡ 3) ⊎ (result ≡ 6)
         → steps.new ≡ steps.old }
 {

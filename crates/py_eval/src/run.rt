@@ -1,5 +1,5 @@
 // The run of a block.
-ghost use Rattle.std.specs.Prelude.{◌≡◌, ◌+◌, IfOk, IsTrue, not};
+ghost use Rattle.std.specs.Prelude.{◌≡◌, ◌+◌, IfOk, IsTrue, OnErr, not};
 ghost use Rattle.run_meaning.specs.Spending.{runs};
 ghost use Rattle.py_eval.specs.Shows.{Shows, scene_of};
 ghost use Rattle.py_tree.specs.Levels.{are_levelled};
@@ -56,6 +56,7 @@ pub fn run_block<L: Ledger>(
         (λ r. where_name (λ x. not (is_among x (bound (view_block block.now)))) env.new
         ≡ where_name (λ x. not (is_among x (bound (view_block block.now)))) env.old) }
     ensures steps { IfOk result (λ r. steps.new ≡ steps.old + r.cost) }
+    ensures wanting { OnErr result (steps.new ≡ steps.old) }
 {
     let mut rest = left;
     let ended = run_lines(alloc, block.items(), scene, env, &mut rest);

@@ -54,8 +54,10 @@ Picks runs budget (Failed k line left console) =
 Picks runs budget (Spent line left console) =
     (ms : List Mark) × (n : ℕ) × runs (ms ++ Charge n line ∷ []) Cut × (cost ms + left ≡ budget) × (left < n) × (console ≡ printed_lines ms)
 
--- One run and its cut beginnings: any two runs are alike, there is a run that isn't cut, and each budget picks what `spend` says.
+-- One run and its cut beginnings: any two runs are alike, there is a run that isn't cut, and each budget picks what `spend` says and
+-- nothing else.
 pub record HasOneRun {A : Type 0} (t : Trace A) : Type 0 where
   pub alike : (ms ms' : List Mark) (e e' : End A) → IsRun t ms e → IsRun t ms' e' → Alike ms ms' e e'
   pub whole : (ms : List Mark) × (e : End A) × IsRun t ms e × (e ≡ Cut → ⊥)
   pub picked : (budget : ℕ) → Picks (IsRun t) budget (spend t budget [])
+  pub only : (budget : ℕ) (s : Spending A) → Picks (IsRun t) budget s → s ≡ spend t budget []

@@ -1,16 +1,17 @@
 -- Frames that are written one after the other.
-use Rattle.std.proofs.Common.{◌≡◌, ◌∙◌, refl, sym, ap, subst, ℕ, ◌+◌, List, [], ◌∷◌, ◌++◌, append_assoc, append-nil, arith}
+use Rattle.std.proofs.Common.{◌≡◌, ◌∙◌, refl, sym, ap, subst, ℕ, ◌+◌, ◌≤◌, List, [], ◌∷◌, ◌++◌, append_assoc, append-nil, arith}
 use Rattle.std.proofs.lemmas.List.{map-append}
 use Rattle.std.proofs.lemmas.List.Concat.{flat_map-append}
 use Rattle.std.proofs.lemmas.List.Sums.{sum_by-append}
 use Rattle.std.specs.Prelude.{Option}
-use Rattle.link_io.proofs.Taken.{part_before, part_whole, took_both, took_none, took_part}
-use Rattle.link_io.specs.Outside.{Took, TookPart}
+use Rattle.link_io.proofs.Taken.{took_both, took_none}
+use Rattle.link_io.specs.Outside.{Took, TookLess}
 use Rattle.visit_meaning.specs.Answer.{Part, cost_of_parts, frames_in}
 use Rattle.frame_meaning.specs.FrameText.{frame_text, labelled}
 use Rattle.frames.specs.declared.frame.Frame.{Frame}
 use Rattle.script_run.specs.Cut.{IsCut}
-use Rattle.kernel.specs.Visit.{Visit, Gives}
+use Rattle.script_run.specs.Front.{IsFront}
+use Rattle.kernel.specs.Visit.{Visit, AtMostFirst, Gives, first_cost}
 
 -- the line of a frame
 abbrev pub line_of : List ℕ → Frame → List ℕ
@@ -33,18 +34,11 @@ pub took_lines : (label : List ℕ) (ps qs : List Part) (before mid now : Option
 took_lines label ps qs before mid now first second =
     subst (Took before now) (sym (lines_append label ps qs)) (took_both before mid now (lines_of label ps) (lines_of label qs) first second)
 
--- a beginning of the lines of the first parts
-pub part_of_lines : (label : List ℕ) (ps more all : List Part) (before now : Option (List ℕ)) → ps ++ more ≡ all
-    → TookPart before now (lines_of label ps) → TookPart before now (lines_of label all)
-part_of_lines label ps more all before now e part =
-    subst (TookPart before now) (sym (lines_append label ps more) ∙ ap (lines_of label) e)
-    (part_before before now (lines_of label ps) (lines_of label more) part)
-
 -- ---- a write that fails
 
 -- of a part alone
 pub cut_here : (label : List ℕ) (p : Part) (before now : Option (List ℕ)) (count count_after : ℕ) → count_after ≡ count + p.cost
-    → TookPart before now (line_of label p.frame) → IsCut label (p ∷ []) before now count count_after
+    → TookLess before now (line_of label p.frame) → IsCut label (p ∷ []) before now count count_after
 cut_here label p before now count count_after steps part =
     let costs : cost_of_parts (p ∷ []) ≡ 0 + p.cost = refl in
     record {
@@ -55,8 +49,9 @@ cut_here label p before now count count_after steps part =
       counted = omega arith;
       piece = part.0;
       more = part.1;
-      line = part.2;
-      took = part.3;
+      left = part.2;
+      line = part.3;
+      took = part.4;
     }
 
 -- of parts behind others that were written, and before others
@@ -76,10 +71,41 @@ cut_behind {label = label} {mid = mid} given parts more all before now count_at 
       counted = omega arith;
       piece = cut.piece;
       more = cut.more;
+      left = cut.left;
       line = cut.line;
       took = subst (Took before now)
           (sym (append_assoc (lines_of label given) (lines_of label cut.written) cut.piece) ∙ ap (λ t. t ++ cut.piece) (sym (lines_append label given cut.written)))
           (took_both before mid now (lines_of label given) (lines_of label cut.written ++ cut.piece) took cut.took);
+    }
+
+-- ---- memory that is wanting
+
+-- before all parts
+pub front_none : (label : List ℕ) (parts : List Part) (before : Option (List ℕ)) (count : ℕ) → IsFront label parts before before count count
+front_none label parts before count =
+    record { written = []; rest = parts; are = refl; least = omega arith; most = omega arith; took = took_none before }
+
+first_within : (ps more : List Part) → first_cost ps ≤ first_cost (ps ++ more)
+first_within [] more = omega arith
+first_within (p ∷ ps) more = omega arith
+
+-- behind other parts that were written, and before others
+pub front_behind : {label : List ℕ} {mid : Option (List ℕ)} {count : ℕ} (given parts more all : List Part) (before now : Option (List ℕ)) (count_at count_after : ℕ)
+    → (given ++ parts) ++ more ≡ all → Took before mid (lines_of label given) → count ≡ count_at + cost_of_parts given
+    → IsFront label parts mid now count count_after → IsFront label all before now count_at count_after
+front_behind {label = label} {mid = mid} given parts more all before now count_at count_after e took counted front =
+    let costs : cost_of_parts (given ++ front.written) ≡ cost_of_parts given + cost_of_parts front.written = costs_append given front.written in
+    let first = first_within front.rest more in
+    let least = front.least in
+    let most = front.most in
+    record {
+      written = given ++ front.written;
+      rest = front.rest ++ more;
+      are = sym e ∙ ap (λ ps. (given ++ ps) ++ more) front.are ∙ ap (λ ps. ps ++ more) (sym (append_assoc given front.written front.rest))
+          ∙ append_assoc (given ++ front.written) front.rest more;
+      least = omega arith;
+      most = omega arith;
+      took = took_lines label given front.written before mid now took front.took;
     }
 
 -- ---- the parts that are to come of a visit `v`, of which some were given and their lines written
@@ -104,12 +130,6 @@ given_none label before v count_at = record {
   nb = refl;
   budget = refl;
 }
-
--- the lines so far begin those of all
-pub given_begins : {label : List ℕ} {before : Option (List ℕ)} {v : Visit} {count_at : ℕ} {now : Option (List ℕ)} {w : Visit} {count : ℕ}
-    → IsGiven label before v count_at now w count → TookPart before now (lines_of label v.pending)
-given_begins {label = label} {before = before} {v = v} {now = now} {w = w} g =
-    part_of_lines label g.given w.pending v.pending before now g.are (part_whole before now (lines_of label g.given) g.took)
 
 -- the part of a frame that is given
 abbrev part_of : {w next : Visit} {count count_next : ℕ} (f : Frame) → Gives f w next count count_next → Part
@@ -140,22 +160,28 @@ given_next {label = label} {before = before} {v = v} {count_at = count_at} {now 
       budget = gives.budget ∙ g.budget;
     }
 
--- a beginning of one more
+-- a beginning of the line of one more
 pub given_cut : {label : List ℕ} {before : Option (List ℕ)} {v : Visit} {count_at : ℕ} {now : Option (List ℕ)} {w : Visit} {count : ℕ}
     → (f : Frame) (next : Visit) (count_next : ℕ) (after : Option (List ℕ)) → IsGiven label before v count_at now w count
-    → Gives f w next count count_next → TookPart now after (line_of label f) → IsCut label v.pending before after count_at count_next
+    → Gives f w next count count_next → TookLess now after (line_of label f) → IsCut label v.pending before after count_at count_next
 given_cut {label = label} {before = before} {v = v} {count_at = count_at} {now = now} {count = count} f next count_next after g gives part =
     let p : Part = part_of f gives in
     cut_behind g.given (p ∷ []) next.pending v.pending before after count_at count_next (are_next v f g.given gives g.are) g.took g.counted
     (cut_here label p now after count count_next gives.steps part)
 
--- so the lines of all begin like that
-pub given_part : {label : List ℕ} {before : Option (List ℕ)} {v : Visit} {count_at : ℕ} {now : Option (List ℕ)} {w : Visit} {count : ℕ}
-    → (f : Frame) (next : Visit) (count_next : ℕ) (after : Option (List ℕ)) → IsGiven label before v count_at now w count
-    → Gives f w next count count_next → TookPart now after (line_of label f) → TookPart before after (lines_of label v.pending)
-given_part {label = label} {before = before} {v = v} {now = now} f next count_next after g gives part =
-    let p : Part = part_of f gives in
-    let line : line_of label f ≡ lines_of label (p ∷ []) = sym (append-nil (line_of label f)) in
-    part_of_lines label (g.given ++ p ∷ []) next.pending v.pending before after (are_next v f g.given gives g.are)
-    (subst (TookPart before after) (sym (lines_append label g.given (p ∷ [])))
-    (took_part before now after (lines_of label g.given) (lines_of label (p ∷ [])) g.took (subst (TookPart now after) line part)))
+-- memory is wanting before the line of the next one
+pub given_front : {label : List ℕ} {before : Option (List ℕ)} {v : Visit} {count_at : ℕ} {now : Option (List ℕ)} {w : Visit} {count : ℕ}
+    → (count_next : ℕ) → IsGiven label before v count_at now w count → AtMostFirst w.pending count count_next
+    → IsFront label v.pending before now count_at count_next
+given_front {w = w} count_next g most =
+    let so_far = g.counted in
+    let least = most.0 in
+    let next = most.1 in
+    record { written = g.given; rest = w.pending; are = sym g.are; least = omega arith; most = omega arith; took = g.took }
+
+-- a frame that is given costs no more than the first
+pub gives_first : {f : Frame} {w next : Visit} {count count_next : ℕ} → Gives f w next count count_next → AtMostFirst w.pending count count_next
+gives_first {w = w} gives =
+    let first : first_cost w.pending ≡ gives.cost = ap first_cost gives.pending in
+    let steps = gives.steps in
+    (omega arith, omega arith)

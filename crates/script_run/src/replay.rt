@@ -1,7 +1,8 @@
 // Visits that are played.
 ghost use Rattle.std.specs.Prelude.{◌≡◌, ◌+◌, ◌≤◌, ◌++◌, ◌∷◌, [], List, IfErr, OnErr, OnOk, map};
-ghost use Rattle.link_io.specs.Outside.{Rose, Took, TookPart};
+ghost use Rattle.link_io.specs.Outside.{Rose, Took, TookLess};
 ghost use Rattle.script_run.specs.Cut.{IsCut};
+ghost use Rattle.script_run.specs.Front.{IsFront};
 ghost use Rattle.visit_meaning.specs.Answer.{Before, Message, cost_of_parts, frames_in, parts_from, solo, work};
 ghost use Rattle.frame_meaning.specs.FrameText.{frame_text, labelled};
 ghost use Rattle.visit_meaning.specs.Messages.{AreMessages};
@@ -59,8 +60,9 @@ fn write_frame<O: Sink>(
 ) -> Result<(), PlayFault>
     ensures written { OnOk result
         (Took (O.taken out.old) (O.taken out.new) (label.now ++ frame_text frame ++ 10 ∷ [])) }
-    ensures begun { OnErr result
-        (TookPart (O.taken out.old) (O.taken out.new) (label.now ++ frame_text frame ++ 10 ∷ [])) }
+    ensures cut { IfErr result (λ fault. fault ≡ PlayFault.WriteFault
+        → TookLess (O.taken out.old) (O.taken out.new) (label.now ++ frame_text frame ++ 10 ∷ [])) }
+    ensures kept { IfErr result (λ fault. fault ≡ PlayFault.Memory → out.new ≡ out.old) }
     ensures later { O.faults out.old ≤ O.faults out.new }
     ensures failed { IfErr result
         (λ fault. fault ≡ PlayFault.WriteFault → Rose (O.faults out.old) (O.faults out.new)) }
@@ -82,12 +84,12 @@ fn drain<'n, O: Sink, L: Ledger>(
     ensures written { OnOk result
         (Took (O.taken out.old) (O.taken out.new)
         (labelled label.now (frames_in kernel.old.pending))) }
-    ensures begun { OnErr result
-        (TookPart (O.taken out.old) (O.taken out.new)
-        (labelled label.now (frames_in kernel.old.pending))) }
     ensures later { O.faults out.old ≤ O.faults out.new }
     ensures cut { IfErr result (λ fault. fault ≡ PlayFault.WriteFault
         → IsCut label.now kernel.old.pending (O.taken out.old)
+        (O.taken out.new) steps.old steps.new) }
+    ensures front { IfErr result (λ fault. fault ≡ PlayFault.Memory
+        → IsFront label.now kernel.old.pending (O.taken out.old)
         (O.taken out.new) steps.old steps.new) }
     ensures failed { IfErr result
         (λ fault. fault ≡ PlayFault.WriteFault → Rose (O.faults out.old) (O.faults out.new)) }
@@ -126,18 +128,20 @@ pub fn play<O: Sink, L: Ledger>(
         ((ms : List Message) → AreMessages (map (λ m. m.now) messages.now) ms
         → steps.new ≡ steps.old + work (view_cells notebook.now) budget ms) }
 
-    // Where a fault comes in the middle, a beginning of their text was written.
-    ensures begun { OnErr result
-        ((ms : List Message) → AreMessages (map (λ m. m.now) messages.now) ms
-        → TookPart (O.taken out.old) (O.taken out.new)
-        (labelled label.now (solo (view_cells notebook.now) budget ms))) }
-
-    // Where a write fails, it is that of the last frame that a step gave: the lines of the frames before it were written, and no later
-    // steps are counted.
+    // Where a write fails, it is that of the last frame that a step gave: the lines of the frames before it were written, and of its own a
+    // beginning, but not all; no later steps are counted.
     ensures cut { IfErr result
         (λ fault. fault ≡ PlayFault.WriteFault → (ms : List Message)
         → AreMessages (map (λ m. m.now) messages.now) ms
         → IsCut label.now (parts_from (view_cells notebook.now) budget Before ms) (O.taken out.old)
+        (O.taken out.new) steps.old steps.new) }
+
+    // Where memory is wanting, whole lines were written, those of a front of the frames, and no more steps are counted than theirs and those
+    // of one cell more.
+    ensures front { IfErr result
+        (λ fault. fault ≡ PlayFault.Memory → (ms : List Message)
+        → AreMessages (map (λ m. m.now) messages.now) ms
+        → IsFront label.now (parts_from (view_cells notebook.now) budget Before ms) (O.taken out.old)
         (O.taken out.new) steps.old steps.new) }
     ensures later { O.faults out.old ≤ O.faults out.new }
     ensures failed { IfErr result

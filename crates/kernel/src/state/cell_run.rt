@@ -1,5 +1,5 @@
 // The run of one cell for a visitor.
-ghost use Rattle.std.specs.Prelude.{◌≡◌, ◌+◌, ◌<◌, All, IfOk, OnOk, IsTrue, length, not, slice_get, Some};
+ghost use Rattle.std.specs.Prelude.{◌≡◌, ◌+◌, ◌<◌, ◌≤◌, All, IfOk, OnOk, IsTrue, length, not, slice_get, Some};
 ghost use Rattle.std.specs.List.{list_all};
 ghost use Rattle.kernel.specs.KernelState.{IsPlain, outcome_at, run_of};
 ghost use Rattle.kernel.specs.CellRun.{settled};
@@ -88,6 +88,9 @@ impl<'n> KernelState<'n> {
         ensures steps { OnOk result
             (steps.new ≡ steps.old + cost_of self.old.budget
             (run_of self.old (view_cell code.now))) }
+        ensures least { steps.old ≤ steps.new }
+        ensures most { steps.new ≤ steps.old + cost_of self.old.budget
+            (run_of self.old (view_cell code.now)) }
         ensures others { self.new ≡ record self.old { env = self.new.env } }
     {
         let scene = Scene {
@@ -121,6 +124,9 @@ impl<'n> KernelState<'n> {
             ((code : Cell) → slice_get (view_cells self.old.notebook.now) cell ≡ Some code
             → steps.new ≡ steps.old + (outcome_at self.old cell code).cost) }
         ensures plain { OnOk result (IsPlain self.new.env) }
+        ensures least { steps.old ≤ steps.new }
+        ensures most { (code : Cell) → slice_get (view_cells self.old.notebook.now) cell ≡ Some code
+            → steps.new ≤ steps.old + (outcome_at self.old cell code).cost }
         ensures others { self.new ≡ record self.old { env = self.new.env } }
     {
         let notebook = self.notebook;

@@ -1,7 +1,7 @@
 // The frames of an answer, one after the other.
 ghost use Rattle.std.specs.Prelude.{◌≡◌, IfOk, IsOk, OnErr, OnOk, false};
 ghost use Rattle.kernel.specs.KernelState.{IsKept, visit_of};
-ghost use Rattle.kernel.specs.Visit.{Gives, IsStep};
+ghost use Rattle.kernel.specs.Visit.{AtMostFirst, Gives, IsStep};
 ghost use Rattle.kernel.specs.declared.pending.Pending.TheVariants as pending;
 
 use crate::answers::Stepped;
@@ -29,6 +29,7 @@ impl<'n> KernelState<'n> {
             (visit_of false self.new) steps.old steps.new stepped) }
         ensures idle { self.old.pending ≡ pending.Nothing → IsOk result }
         ensures newest { OnErr result (self.new.newest ≡ self.old.newest) }
+        ensures most { AtMostFirst (visit_of false self.old).pending steps.old steps.new }
     {
         match mem::replace(&mut self.pending, Pending::Nothing) {
             Pending::Nothing => Ok(Stepped::Idle),
@@ -61,6 +62,9 @@ impl<'n> KernelState<'n> {
             (record self.old { pending = pending.Results cells.entry taken }))
             (visit_of false self.new) steps.old steps.new) }
         ensures newest { OnErr result (self.new.newest ≡ self.old.newest) }
+        ensures most { AtMostFirst
+            (visit_of false (record self.old { pending = pending.Results cells.entry taken })).pending
+            steps.old steps.new }
     {
         let Some(cell) = cells.items().get(taken) else {
             return Ok(Frame::Done(cells.items().len() as u32));

@@ -1,5 +1,5 @@
 -- The cell is cancelled, or does what its run says.
-use Rattle.std.proofs.Common.{◌≡◌, ◌∙◌, sym, ap, subst, not, ◌+◌, add-zero, length, get_or}
+use Rattle.std.proofs.Common.{◌≡◌, ◌∙◌, sym, ap, subst, not, ◌+◌, ◌≤◌, add-zero, arith, length, get_or}
 use Rattle.std.specs.Prelude.{Some, slice_get}
 use Rattle.visit_meaning.specs.Whole as whole
 use Rattle.py_tree.specs.Names.{is_among}
@@ -103,3 +103,18 @@ returns-clause-plain g c =
     on_ok_then c.run_code.result _ _
     (λ h. subst IsPlain (sym h) (plain_after c.forget.new.env (run_of (record c.args.self.now { env = c.forget.new.env }) (view_cell c.index-cells-cell.result)) (plain_without c.defs_of-defs.result.now c.args.self.now.env c.forget.new.env c.requires.plain c.forget.ensures)))
     c.run_code.ensures.env
+
+pub returns-then-not-all_ok-clause-most : goal.returns-then-not-all_ok-clause-most
+returns-then-not-all_ok-clause-most g c = λ code e. omega arith
+
+pub returns-clause-most : goal.returns-clause-most
+returns-clause-most g c =
+    let nb = view_cells c.args.self.now.notebook.now in
+    let code = view_cell c.index-cells-cell.result in
+    let at = code_at c.args.self.now.notebook.now c.args.cell c.index-cells-cell.result c.requires.there (c.index-cells-cell.is ∙ ap (λ xs. get_or xs c.args.cell c.index-cells-cell.result) c.cells.ensures.cells) in
+    let is = c.forget.ensures ∙ ap (λ ns. where_name (λ x. not (is_among x ns)) c.args.self.now.env) (c.defs_of-defs.ensures ∙ defs_are nb c.args.cell code at) in
+    let on = may_run c.args.self.now c.args.cell c.as_slice.result.now c.parents.result.now _ c.as_slice.ensures.value c.parents.ensures (sym c.if-not-all_ok.false ∙ c.all_ok.ensures) in
+    let outcome = ran_outcome c.args.self.now c.args.cell code c.forget.new.env on is in
+    λ k e. subst (λ n. c.run_code.new.steps ≤ c.args.steps.now + n)
+    (ap (λ (o : whole.Outcome). o.cost) outcome ∙ ap (λ k. (outcome_at c.args.self.now c.args.cell k).cost) (one_code (slice_get nb c.args.cell) code k at e))
+    c.run_code.ensures.most

@@ -1,5 +1,5 @@
 -- What the evaluator answers shows the run.
-use Rattle.std.proofs.Common.{◌∙◌, ap, ◌+◌}
+use Rattle.std.proofs.Common.{◌∙◌, ap, ◌+◌, arith}
 use Rattle.py_tree.specs.View.{view_cell}
 use Rattle.kernel.specs.KernelState.{run_of}
 use Rattle.kernel.specs.CellRun.{settled}
@@ -25,3 +25,10 @@ returns-clause-steps g c =
     let shows = run_here c.in_ok-ran.ran c.run_block.new.env c.args.self.now (view_cell c.args.code.now) c.args.own.now c.requires.own c.in_ok-ran.ensures.run in
     on_ok_always c.ran_frame.result _
     (c.in_ok-ran.ensures.steps ∙ ap (λ n. c.args.steps.now + n) (cost_shown c.in_ok-ran.ran c.run_block.new.env c.args.self.now.budget (run_of c.args.self.now (view_cell c.args.code.now)) shows))
+
+pub returns-clause-most : goal.returns-clause-most
+returns-clause-most g c =
+    let shows = run_here c.in_ok-ran.ran c.run_block.new.env c.args.self.now (view_cell c.args.code.now) c.args.own.now c.requires.own c.in_ok-ran.ensures.run in
+    let counted = c.in_ok-ran.ensures.steps in
+    let cost = cost_shown c.in_ok-ran.ran c.run_block.new.env c.args.self.now.budget (run_of c.args.self.now (view_cell c.args.code.now)) shows in
+    omega (arith, counted, cost)
