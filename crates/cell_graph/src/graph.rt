@@ -106,8 +106,7 @@ impl Notebook {
     }
 
     /// The cells that run again when these names change, in the order: those that reference one of them, and all behind these. The
-    /// first cell that waits is always taken, so that all that lead to a cell are taken before it. Only these cells and the edges
-    /// from them are looked at.
+    /// first cell that waits is always taken, so that all that lead to a cell are taken before it.
     pub fn rerun(&self, alloc: Global, names: &Lines) -> Result<CellList, Memory>
         ensures { IfOk result (λ cells. cells ≡ rerun (view_cells self.now) names.now) }
     {
