@@ -1,4 +1,4 @@
-// Laws and worked examples, proved from the definitions.
+// Laws, proved from the definitions.
 ghost use Rattle.std.specs.Prelude.{◌≡◌, ◌↔◌, ℕ, ◌<◌, nat_eq, true, IsTrue, List, length};
 ghost use Rattle.std.specs.List.{IsDistinct};
 ghost use Rattle.py_tree.specs.Names.{Name};

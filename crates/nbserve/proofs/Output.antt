@@ -93,7 +93,7 @@ played_parts holds words f s bytes n played nb ms a l r i (works.play file scrip
 
 module _ (holds : List ℕ → Option (Option (List ℕ))) (words : List (List ℕ)) (status : ℕ) (before now : Option (List ℕ)) (unwritten : Type 0) (count count_after : ℕ) where
   -- what was done for a command whose notebook and messages are told
-  IsDoneFor : Command → List Cell → List Message → Type 0
+  abbrev IsDoneFor : Command → List Cell → List Message → Type 0
   IsDoneFor asked nb ms = IsDone nb ms (label_of asked) (last_of asked) status before now unwritten count count_after
 
   -- the messages of a command lead to the same parts
@@ -200,7 +200,7 @@ carried_comes unread (done.played file script nb asked loaded p) =
     (script_text nb usual_budget p.said, program.played file script p.bytes nb p.said asked loaded p.read p.is refl refl, done_to p.done)
 
 module _ (holds : List ℕ → Option (Option (List ℕ))) (unread unwritten : Type 0) (words : List (List ℕ)) (status : ℕ) (before now : Option (List ℕ)) (count count_after : ℕ) where
-  Runs : Type 0
+  abbrev Runs : Type 0
   Runs = RunsTo holds unread unwritten words status before now count count_after
 
   -- the status is one that the run comes to, or a write failed, or memory was wanting
