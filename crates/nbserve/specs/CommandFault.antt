@@ -3,7 +3,6 @@ use Rattle.std.specs.Prelude.{◌≡◌, ◌⊎◌, ℕ, List, [], codes, Option
 use Rattle.program_meaning.specs.Program as program
 use Rattle.program_meaning.specs.Program.{AreRead, Comes, FailsFirst, refusal_text}
 use Rattle.program_meaning.specs.Scripts.{FaultAt, fault_text}
-use Rattle.nbserve.specs.declared.refusal.Refusal.TheVariants as refusal
 use Rattle.script_run.specs.declared.script.ScriptFault.{ScriptFault}
 use Rattle.script_run.specs.declared.script.ScriptFault.TheVariants as script
 use Rattle.nbserve.specs.declared.command_fault.CommandFault.{CommandFault}
