@@ -33,7 +33,7 @@ impl Model for Notebook {
     ghost use Rattle.py_tree.specs.contracts.tree.Block as block;
     ghost use Rattle.py_tree.specs.declared.tree.CellCode.{CellCode};
     ghost use Rattle.py_tree.specs.View.{view_cells};
-    ghost use Rattle.cell_graph.specs.Counts.{AreTurned};
+    ghost use Rattle.cell_graph.specs.Counts.{IsTranspose};
     ghost use Rattle.cell_graph.specs.Places.{ArePlaced};
     ghost use Rattle.cell_graph.specs.Readers.{HasReaders};
     ghost use Rattle.cell_graph.specs.Tables.{AreDefs, AreRefs, AreElements, AreParents};
@@ -50,7 +50,7 @@ impl Model for Notebook {
         × AreElements (view_cells nb.cells.items) nb.elements.items
         × AreParents (view_cells nb.cells.items) nb.parents.items × (nb.order.items ≡ graph.order (view_cells nb.cells.items))
         × graph.NoneDoubled (view_cells nb.cells.items) × graph.NoneCyclic (view_cells nb.cells.items)
-        × AreTurned nb.parents.items nb.children.items × ArePlaced nb.order.items nb.places.items nb.children.items
+        × IsTranspose nb.parents.items nb.children.items × ArePlaced nb.order.items nb.places.items nb.children.items
         × HasReaders nb.refs.items nb.readers };
 }
 
@@ -106,8 +106,7 @@ impl Notebook {
     }
 
     /// The cells that run again when these names change, in the order: those that reference one of them, and all behind these. The
-    /// first cell that waits is always taken, so that all that lead to a cell are taken before it. Only these cells and the edges
-    /// from them are looked at.
+    /// first cell that waits is always taken, so that all that lead to a cell are taken before it.
     pub fn rerun(&self, alloc: Global, names: &Lines) -> Result<CellList, Memory>
         ensures { IfOk result (λ cells. cells ≡ rerun (view_cells self.now) names.now) }
     {

@@ -1,4 +1,4 @@
-// Laws and worked examples, proved from the definitions.
+// Laws, proved from the definitions.
 ghost use Rattle.std.specs.Prelude.{◌≡◌, ◌↔◌, ℕ, ◌<◌, nat_eq, true, IsTrue, List, length};
 ghost use Rattle.std.specs.List.{IsDistinct};
 ghost use Rattle.py_tree.specs.Names.{Name};
@@ -15,7 +15,7 @@ pub fn order_and_cycles()
     ensures none { (nb : List Cell) (c : ℕ) → is_in c (order nb) ≡ true → LiesOnCycle nb c → ⊥ }
 {}
 
-/// In a notebook without a cycle the cells that run again are those to which a chain leads from a cell that references one of the names;
+/// In a notebook without a cycle the cells that run again are those to which a path leads from a cell that references one of the names;
 /// each of them runs once.
 pub fn what_runs_again()
     ensures reached { (nb : List Cell) (names : List Name) → NoneCyclic nb → (c : ℕ) → c < length nb

@@ -9,6 +9,7 @@ use Rattle.visit_meaning.proofs.ResultsOf.{one_each}
 use Rattle.visit_meaning.proofs.Standing as standing
 use Rattle.visit_meaning.specs.Answer.{Part, Before, On, at_no_cost, results_of}
 use Rattle.graph_meaning.specs.Graph.{is_in, NoneCyclic}
+use Rattle.visit_meaning.specs.Rerun.{IsAfresh}
 use Rattle.visit_meaning.specs.Underway.{Going}
 use Rattle.frames.specs.declared.frame.Frame.TheVariants as frame
 use Rattle.py_tree.specs.Trees.{Cell}
@@ -69,7 +70,8 @@ whole_by true spoiled s ui by e none =
     let nb : List Cell = view_cells s.notebook.now in
     let is : On s.present ≡ On ui = e in
     let same : s.present ≡ ui = cc in
-    let at = standing.stands by.values (subst (λ left. Going nb s.budget s.present left s.env (newest_in s.newest.items)) none by.going) in
+    let at : IsAfresh nb s.budget s.present (record { env = s.env; newest = newest_in s.newest.items }) =
+    standing.stands by.values (subst (λ left. Going nb s.budget s.present left s.env (newest_in s.newest.items)) none by.going) in
     let count : length nb ≡ length s.notebook.now = length-map s.notebook.now view_cell in
     subst (λ ui. IsWhole (visit_of spoiled s) ui) same (record { env = at.env_is; newest = λ c below. at.newest_is c (omega arith) })
 whole_by false spoiled s ui by e none = let bad : Before ≡ On ui = e in absurd cc

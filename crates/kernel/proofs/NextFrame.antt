@@ -93,7 +93,7 @@ module _ (s : KernelState) (cells : Cells) (taken c : ℕ) (code : Cell) where
       subst (λ cs. Going (view_cells s.notebook.now) s.budget s.present cs s.env (newest_in s.newest.items)) (cut (cells_of cells) taken c at.next) (was at).1.going
 
   -- the part of an outcome of the cell
-  part_here : CellFrame → Part
+  abbrev part_here : CellFrame → Part
   part_here f = record { frame = frame.Cell f; cost = (outcome_at s c code).cost }
 
   -- its part is the first of those that are to come

@@ -16,17 +16,17 @@ use Rattle.py_value.specs.declared.types.Value.{Value}
 use Rattle.py_value.specs.declared.types.Value.TheVariants as V
 use Rattle.py_value.proofs.Levels.{value_of-data_of}
 use Rattle.py_value.proofs.SortedMaps.{look_up-where_off, look_up-where_on, same_maps, sorted_where_name}
-use Rattle.visit_meaning.specs.Answer.{On, Set, Part, Answered, at_no_cost, results_of, counted, element_in, value_set, with_value, next, answer}
+use Rattle.visit_meaning.specs.Answer.{On, Set, Part, Answered, at_no_cost, results_of, counted, element_in, value_set, with_value, present_after, answer}
 use Rattle.graph_meaning.specs.Graph.{elements_of, order}
 use Rattle.run_meaning.specs.Meaning.{Env}
 use Rattle.graph_meaning.specs.Reruns.{is_within, rerun}
+use Rattle.visit_meaning.specs.Rerun.{IsAfresh, laid_over}
 use Rattle.visit_meaning.specs.Underway.{Going, HasNoLocals}
 use Rattle.visit_meaning.specs.WithElement.{with_element}
 use Rattle.frames.specs.declared.frame.Frame.{Frame}
 use Rattle.frames.specs.declared.frame.Frame.TheVariants as frame
 use Rattle.visit_meaning.proofs.AtKept.{next_plain}
 use Rattle.visit_meaning.proofs.ResultsOf.{one_each_kept, results_one_by_one}
-use Rattle.visit_meaning.proofs.SetValues.{laid_over}
 use Rattle.visit_meaning.proofs.Standing as standing
 use Rattle.kernel.specs.Pending.{cells_of, left_of}
 use Rattle.kernel.specs.KernelState.{IsAfter, IsKept, IsPlain, StandsBy, state_of, visit_of}
@@ -91,13 +91,13 @@ module _ (s : KernelState) (kept : IsKept s) (free : s.pending ≡ pending.Nothi
   after : IsAfter s
   after = subst (λ b. StandsBy b s) on kept.stands
 
-  at : standing.Stands nb s.budget s.present s.env (newest_in s.newest.items)
+  at : IsAfresh nb s.budget s.present (record { env = s.env; newest = newest_in s.newest.items })
   at = standing.stands after.values (subst (λ left. Going nb s.budget s.present left s.env (newest_in s.newest.items)) (ap left_of free) after.going)
 
   -- the value is set to these data
   module _ (value : Value) (set : value_set s.env (x, sent) ≡ Some (data_of value)) where
     abbrev later : Map Value
-    later = next nb s.env s.present sets
+    later = present_after nb s.env s.present sets
 
     fit : answer nb s.budget (state_of s.on s.present) (Set sets) ≡ record { state = On later; parts = counted (results_of nb s.budget later cells) }
     fit =

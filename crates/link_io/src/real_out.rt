@@ -5,7 +5,7 @@ use crate::files::Failed;
 use crate::sink::Sink;
 use std::io::{ErrorKind, Print};
 
-/// The standard output. Nothing that it took waits in a buffer.
+/// The standard output, with no buffer of our own before it.
 #[derive(Drop)]
 pub struct RealOut<R> {
     runtime: R,

@@ -31,7 +31,7 @@ done_after nb ms label last result before between now a b d count count_after fi
 done_after nb ms label last result before between now a b d count count_after first steps le (wrote.wanting e none) =
     let parts : List Part = parts_from nb usual_budget Before ms in
     let text = labelled label (solo nb usual_budget ms) in
-    done.front e (record {
+    done.prefix e (record {
       written = parts;
       rest = [];
       are = sym (append-nil parts);

@@ -13,7 +13,7 @@ use Rattle.program_meaning.proofs.ScriptTexts as scripts_read
 use Rattle.nbserve.specs.Execution as done
 use Rattle.nbserve.specs.Execution.{Carried, IsDone}
 use Rattle.script_run.specs.Cut.{IsCutOff}
-use Rattle.script_run.specs.Front.{IsFront}
+use Rattle.script_run.specs.Prefix.{WrotePrefix}
 use Rattle.frame_meaning.specs.FrameText.{labelled}
 use Rattle.nbserve.specs.CommandFault.{IsStopped, status_of, stop_line}
 use Rattle.nbserve.specs.Works as works
@@ -93,7 +93,7 @@ played_parts holds words f s bytes n played nb ms a l r i (works.play file scrip
 
 module _ (holds : List ℕ → Option (Option (List ℕ))) (words : List (List ℕ)) (status : ℕ) (before now : Option (List ℕ)) (unwritten : Type 0) (count count_after : ℕ) where
   -- what was done for a command whose notebook and messages are told
-  IsDoneFor : Command → List Cell → List Message → Type 0
+  abbrev IsDoneFor : Command → List Cell → List Message → Type 0
   IsDoneFor asked nb ms = IsDone nb ms (label_of asked) (last_of asked) status before now unwritten count count_after
 
   -- the messages of a command lead to the same parts
@@ -104,8 +104,8 @@ module _ (holds : List ℕ → Option (Option (List ℕ))) (words : List (List �
       (steps ∙ ap (λ parts. count + cost_of_parts parts) same)
   same_done asked n nb sent ms same (done.cut e why cut) =
       done.cut e why (subst (λ parts. IsCutOff (label_of asked) (last_of asked) parts before now count count_after) same cut)
-  same_done asked n nb sent ms same (done.front e front) =
-      done.front e (subst (λ parts. IsFront (label_of asked) parts before now count count_after) same front)
+  same_done asked n nb sent ms same (done.prefix e prefix) =
+      done.prefix e (subst (λ parts. WrotePrefix (label_of asked) parts before now count count_after) same prefix)
 
   -- a command that was carried out is that of the words
   carried_done : Carried holds words status before now unwritten count count_after → (asked : Command) (nb : List Cell) (ms : List Message)
@@ -189,7 +189,7 @@ done_to : {nb : List Cell} {ms : List Message} {label last : List ℕ} {status :
     → IsDone nb ms label last status before now unwritten count count_after → (status ≡ 0) ⊎ ((status ≡ 4) × unwritten) ⊎ (status ≡ 5)
 done_to (done.whole e took steps) = inl e
 done_to (done.cut e why cut) = inr (inl (e, why))
-done_to (done.front e front) = inr (inr e)
+done_to (done.prefix e prefix) = inr (inr e)
 
 -- what it comes to then
 pub carried_comes : {holds : List ℕ → Option (Option (List ℕ))} {words : List (List ℕ)} {status : ℕ} {before now : Option (List ℕ)} {unwritten : Type 0} {count count_after : ℕ}
@@ -200,7 +200,7 @@ carried_comes unread (done.played file script nb asked loaded p) =
     (script_text nb usual_budget p.said, program.played file script p.bytes nb p.said asked loaded p.read p.is refl refl, done_to p.done)
 
 module _ (holds : List ℕ → Option (Option (List ℕ))) (unread unwritten : Type 0) (words : List (List ℕ)) (status : ℕ) (before now : Option (List ℕ)) (count count_after : ℕ) where
-  Runs : Type 0
+  abbrev Runs : Type 0
   Runs = RunsTo holds unread unwritten words status before now count count_after
 
   -- the status is one that the run comes to, or a write failed, or memory was wanting
@@ -266,23 +266,23 @@ module _ (holds : List ℕ → Option (Option (List ℕ))) (unread unwritten : T
   done_steps : (asked : Command) (nb : List Cell) (ms : List Message) → IsDoneFor holds words status before now unwritten count count_after asked nb ms → status ≡ 0 → count_after ≡ count + work nb usual_budget ms
   done_steps asked nb ms (done.whole e took steps) zero = steps
   done_steps asked nb ms (done.cut e why cut) zero = absurd (omega (arith, e, zero))
-  done_steps asked nb ms (done.front e front) zero = absurd (omega (arith, e, zero))
+  done_steps asked nb ms (done.prefix e prefix) zero = absurd (omega (arith, e, zero))
 
   done_cut : (asked : Command) (nb : List Cell) (ms : List Message) → IsDoneFor holds words status before now unwritten count count_after asked nb ms → status ≡ 4
       → IsCutOff (label_of asked) (last_of asked) (parts_from nb usual_budget Before ms) before now count count_after
   done_cut asked nb ms (done.whole e took steps) four = absurd (omega (arith, e, four))
   done_cut asked nb ms (done.cut e why cut) four = cut
-  done_cut asked nb ms (done.front e front) four = absurd (omega (arith, e, four))
+  done_cut asked nb ms (done.prefix e prefix) four = absurd (omega (arith, e, four))
 
-  done_front : (asked : Command) (nb : List Cell) (ms : List Message) → IsDoneFor holds words status before now unwritten count count_after asked nb ms → status ≡ 5
-      → IsFront (label_of asked) (parts_from nb usual_budget Before ms) before now count count_after
-  done_front asked nb ms (done.whole e took steps) five = absurd (omega (arith, e, five))
-  done_front asked nb ms (done.cut e why cut) five = absurd (omega (arith, e, five))
-  done_front asked nb ms (done.front e front) five = front
+  done_prefix : (asked : Command) (nb : List Cell) (ms : List Message) → IsDoneFor holds words status before now unwritten count count_after asked nb ms → status ≡ 5
+      → WrotePrefix (label_of asked) (parts_from nb usual_budget Before ms) before now count count_after
+  done_prefix asked nb ms (done.whole e took steps) five = absurd (omega (arith, e, five))
+  done_prefix asked nb ms (done.cut e why cut) five = absurd (omega (arith, e, five))
+  done_prefix asked nb ms (done.prefix e prefix) five = prefix
 
-  -- where nothing was written and nothing counted, that is a front
-  none_front : (asked : Command) (nb : List Cell) (ms : List Message) → Took before now [] → count_after ≡ count → IsFront (label_of asked) (parts_from nb usual_budget Before ms) before now count count_after
-  none_front asked nb ms none still =
+  -- where nothing was written and nothing counted, that is a prefix
+  none_prefix : (asked : Command) (nb : List Cell) (ms : List Message) → Took before now [] → count_after ≡ count → WrotePrefix (label_of asked) (parts_from nb usual_budget Before ms) before now count count_after
+  none_prefix asked nb ms none still =
       record { written = []; rest = parts_from nb usual_budget Before ms; are = refl; least = omega (arith, still); most = omega (arith, still); took = none }
 
   pub runs_steps : Runs → status ≡ 0 → (nb : List Cell) (ms : List Message) → Works holds words nb ms → count_after ≡ count + work nb usual_budget ms
@@ -302,15 +302,15 @@ module _ (holds : List ℕ → Option (Option (List ℕ))) (unread unwritten : T
       absurd (⊎_elim other (λ three. read (comes_read holds unread words come text comes three)) (comes_works holds unread words come text comes nb ms can))
   runs_cut (output.wanting e none still) four asked nb ms h can read = absurd (omega (arith, e, four))
 
-  pub runs_front : Runs → status ≡ 5 → (asked : Command) (nb : List Cell) (ms : List Message) → command_of words ≡ Some asked → Works holds words nb ms
-      → IsFront (label_of asked) (parts_from nb usual_budget Before ms) before now count count_after
-  runs_front (output.carried c) five asked nb ms h can =
-      done_front asked nb ms (carried_done holds words status before now unwritten count count_after c asked nb ms h can) five
-  runs_front (output.stopped come text other comes (output.whole e took) still) five asked nb ms h can =
+  pub runs_prefix : Runs → status ≡ 5 → (asked : Command) (nb : List Cell) (ms : List Message) → command_of words ≡ Some asked → Works holds words nb ms
+      → WrotePrefix (label_of asked) (parts_from nb usual_budget Before ms) before now count count_after
+  runs_prefix (output.carried c) five asked nb ms h can =
+      done_prefix asked nb ms (carried_done holds words status before now unwritten count count_after c asked nb ms h can) five
+  runs_prefix (output.stopped come text other comes (output.whole e took) still) five asked nb ms h can =
       absurd (⊎_elim other (λ three. omega (arith, e, five, three)) (comes_works holds unread words come text comes nb ms can))
-  runs_front (output.stopped come text other comes (output.cut e why part) still) five asked nb ms h can = absurd (omega (arith, e, five))
-  runs_front (output.stopped come text other comes (output.wanting e none) still) five asked nb ms h can = none_front asked nb ms none still
-  runs_front (output.wanting e none still) five asked nb ms h can = none_front asked nb ms none still
+  runs_prefix (output.stopped come text other comes (output.cut e why part) still) five asked nb ms h can = absurd (omega (arith, e, five))
+  runs_prefix (output.stopped come text other comes (output.wanting e none) still) five asked nb ms h can = none_prefix asked nb ms none still
+  runs_prefix (output.wanting e none still) five asked nb ms h can = none_prefix asked nb ms none still
 
   -- where a test isn't passed, no step was counted
   pub runs_unrun : Runs → (status ≡ 1) ⊎ (status ≡ 2) ⊎ (status ≡ 3) ⊎ (status ≡ 6) → count_after ≡ count

@@ -1,4 +1,4 @@
--- Commands that aren't carried out, and notebooks that aren't loaded.
+-- Commands that aren't carried out, notebooks that aren't loaded, and bytes that are no scripts.
 use Rattle.std.specs.Prelude.{◌≡◌, ◌⊎◌, ℕ, List, [], codes, Option}
 use Rattle.program_meaning.specs.Program as program
 use Rattle.program_meaning.specs.Program.{AreRead, Comes, FailsFirst, refusal_text}

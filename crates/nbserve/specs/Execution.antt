@@ -7,16 +7,16 @@ use Rattle.program_meaning.specs.Program.{Once, Play, command_of, AreRead, IsLoa
 use Rattle.program_meaning.specs.Scripts.{Script, IsScript, messages_of}
 use Rattle.py_tree.specs.Trees.{Cell}
 use Rattle.script_run.specs.Cut.{IsCutOff}
-use Rattle.script_run.specs.Front.{IsFront}
+use Rattle.script_run.specs.Prefix.{WrotePrefix}
 
 -- The frames of these messages were written, each behind the label, and then the last text, and the steps of the messages were counted (0).
--- Or the text is cut where a write failed, and the steps up to there were counted (4). Or memory was wanting behind a front of the frames (5).
+-- Or the text is cut where a write failed, and the steps up to there were counted (4). Or memory was wanting behind a prefix of the frames (5).
 pub data IsDone (nb : List Cell) (ms : List Message) (label last : List ℕ) (status : ℕ) (before now : Option (List ℕ)) (unwritten : Type 0) (count count_after : ℕ) : Type 0 where
   whole : status ≡ 0 → Took before now (labelled label (solo nb usual_budget ms) ++ last) → count_after ≡ count + work nb usual_budget ms
       → IsDone nb ms label last status before now unwritten count count_after
   cut : status ≡ 4 → unwritten → IsCutOff label last (parts_from nb usual_budget Before ms) before now count count_after
       → IsDone nb ms label last status before now unwritten count count_after
-  front : status ≡ 5 → IsFront label (parts_from nb usual_budget Before ms) before now count count_after
+  prefix : status ≡ 5 → WrotePrefix label (parts_from nb usual_budget Before ms) before now count count_after
       → IsDone nb ms label last status before now unwritten count count_after
 
 -- the script of a file was played

@@ -61,12 +61,17 @@ fn end_process(status: u8) -> ExitCode
     ExitCode::from(status)
 }
 
-fn main(rt: HostRuntime) -> ExitCode
+// Runs the program with the words of the command line, and ends with its status.
+fn run_command_line(rt: &HostRuntime) -> ExitCode
     ensures { EndsWith (exit_status result) }
 {
-    let status = match words_of(&rt) {
-        Some(words) => run_really::<Brand>(&rt, words.as_slice(), Blank::new(1)),
+    let status = match words_of(rt) {
+        Some(words) => run_really::<Brand>(rt, words.as_slice(), Blank::new(1)),
         None => WANT_OF_MEMORY,
     };
     end_process(status)
+}
+
+fn main(rt: HostRuntime) -> ExitCode {
+    run_command_line(&rt)
 }

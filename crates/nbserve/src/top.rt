@@ -3,7 +3,7 @@ ghost use Rattle.std.specs.Prelude.{◌≡◌, ◌⊎◌, ℕ, ◌+◌, ◌≤�
 ghost use Rattle.link_io.specs.Outside.{Rose};
 ghost use Rattle.nbserve.specs.Execution.{Carried, IsDone, IsPlayed};
 ghost use Rattle.script_run.specs.Cut.{IsCutOff};
-ghost use Rattle.script_run.specs.Front.{IsFront};
+ghost use Rattle.script_run.specs.Prefix.{WrotePrefix};
 ghost use Rattle.nbserve.specs.CommandFault.{IsStopped, IsUnloaded, IsUnplayed, IsUnread};
 ghost use Rattle.nbserve.specs.Works.{Works, label_of, last_of};
 ghost use Rattle.nbserve.specs.Output.{RunsTo};
@@ -223,11 +223,11 @@ pub fn run_words<F: Files, O: Sink, L: Ledger>(
         → IsCutOff (label_of asked) (last_of asked) (parts_from nb usual_budget Before ms)
         (O.taken out.old) (O.taken out.new) steps.old steps.new }
 
-    // Where memory is wanting, whole lines of a front of its frames were written, and nothing else.
-    ensures front { result ≡ 5 → (asked : program.Command) (nb : List Cell) (ms : List Message)
+    // Where memory is wanting, whole lines of a prefix of its frames were written, and nothing else.
+    ensures prefix { result ≡ 5 → (asked : program.Command) (nb : List Cell) (ms : List Message)
         → command_of (map string_bytes words.now) ≡ Some asked
         → Works (F.holds files.old) (map string_bytes words.now) nb ms
-        → IsFront (label_of asked) (parts_from nb usual_budget Before ms)
+        → WrotePrefix (label_of asked) (parts_from nb usual_budget Before ms)
         (O.taken out.old) (O.taken out.new) steps.old steps.new }
 
     // A notebook that isn't accepted is refused, unless a fault comes or memory is wanting.

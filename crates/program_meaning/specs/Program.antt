@@ -84,8 +84,8 @@ abbrev pub IsLoaded : (List ℕ → Option (Option (List ℕ))) → List ℕ →
 IsLoaded holds file nb = (bytes : List ℕ) × AreRead holds file bytes × IsAccepted bytes nb
 
 -- The status and the whole text that a run of the program comes to where no write fails and memory isn't wanting. `holds` is what the names
--- of files stand for, where that is told: nothing, or some bytes. `failed` says that a read failed. A script is looked at only where the notebook is
--- accepted, and nothing runs unless it is good.
+-- of files stand for, where that is told: nothing, or some bytes. `failed` says that a read failed. What is said of a script is said of an
+-- accepted notebook's, and nothing runs unless the script is good.
 pub data Comes (holds : List ℕ → Option (Option (List ℕ))) (failed : Type 0) (words : List (List ℕ)) (status : ℕ) (text : List ℕ) : Type 0 where
   -- 0: the notebook was opened, or the script was played
   opened : (file : List ℕ) (nb : List Cell) → command_of words ≡ Some (Once file) → IsLoaded holds file nb
@@ -98,7 +98,7 @@ pub data Comes (holds : List ℕ → Option (Option (List ℕ))) (failed : Type 
       → FailsFirst bytes why → status ≡ 1 → text ≡ refusal_text why → Comes holds failed words status text
   -- 2: the words are no form
   usage : command_of words ≡ None → status ≡ 2 → text ≡ codes "usage\n" → Comes holds failed words status text
-  -- 3: a file couldn't be read: the notebook, or the script of an accepted one
+  -- 3: a file couldn't be read. Which one isn't told.
   unread : (command : Command) → command_of words ≡ Some command → failed → status ≡ 3 → text ≡ codes "read fault\n"
       → Comes holds failed words status text
   -- 6: the bytes are no script

@@ -1,4 +1,4 @@
-// Laws and worked examples, proved from the definitions.
+// Laws, proved from the definitions.
 ghost use Rattle.std.specs.Prelude.{ℕ};
 ghost use Rattle.py_tree.specs.Trees.{Tree, Stmts};
 ghost use Rattle.run_meaning.specs.Meaning.{Scene, Env, value_of, block_of};

@@ -10,7 +10,7 @@ use Rattle.visit_meaning.specs.Answer.{Part, cost_of_parts, frames_in}
 use Rattle.frame_meaning.specs.FrameText.{frame_text, labelled}
 use Rattle.frames.specs.declared.frame.Frame.{Frame}
 use Rattle.script_run.specs.Cut.{IsCut}
-use Rattle.script_run.specs.Front.{IsFront}
+use Rattle.script_run.specs.Prefix.{WrotePrefix}
 use Rattle.kernel.specs.Visit.{Visit, AtMostFirst, Gives, first_cost}
 
 -- the line of a frame
@@ -81,8 +81,8 @@ cut_behind {label = label} {mid = mid} given parts more all before now count_at 
 -- ---- memory that is wanting
 
 -- before all parts
-pub front_none : (label : List ℕ) (parts : List Part) (before : Option (List ℕ)) (count : ℕ) → IsFront label parts before before count count
-front_none label parts before count =
+pub prefix_none : (label : List ℕ) (parts : List Part) (before : Option (List ℕ)) (count : ℕ) → WrotePrefix label parts before before count count
+prefix_none label parts before count =
     record { written = []; rest = parts; are = refl; least = omega arith; most = omega arith; took = took_none before }
 
 first_within : (ps more : List Part) → first_cost ps ≤ first_cost (ps ++ more)
@@ -90,22 +90,22 @@ first_within [] more = omega arith
 first_within (p ∷ ps) more = omega arith
 
 -- behind other parts that were written, and before others
-pub front_behind : {label : List ℕ} {mid : Option (List ℕ)} {count : ℕ} (given parts more all : List Part) (before now : Option (List ℕ)) (count_at count_after : ℕ)
+pub prefix_behind : {label : List ℕ} {mid : Option (List ℕ)} {count : ℕ} (given parts more all : List Part) (before now : Option (List ℕ)) (count_at count_after : ℕ)
     → (given ++ parts) ++ more ≡ all → Took before mid (lines_of label given) → count ≡ count_at + cost_of_parts given
-    → IsFront label parts mid now count count_after → IsFront label all before now count_at count_after
-front_behind {label = label} {mid = mid} given parts more all before now count_at count_after e took counted front =
-    let costs : cost_of_parts (given ++ front.written) ≡ cost_of_parts given + cost_of_parts front.written = costs_append given front.written in
-    let first = first_within front.rest more in
-    let least = front.least in
-    let most = front.most in
+    → WrotePrefix label parts mid now count count_after → WrotePrefix label all before now count_at count_after
+prefix_behind {label = label} {mid = mid} given parts more all before now count_at count_after e took counted prefix =
+    let costs : cost_of_parts (given ++ prefix.written) ≡ cost_of_parts given + cost_of_parts prefix.written = costs_append given prefix.written in
+    let first = first_within prefix.rest more in
+    let least = prefix.least in
+    let most = prefix.most in
     record {
-      written = given ++ front.written;
-      rest = front.rest ++ more;
-      are = sym e ∙ ap (λ ps. (given ++ ps) ++ more) front.are ∙ ap (λ ps. ps ++ more) (sym (append_assoc given front.written front.rest))
-          ∙ append_assoc (given ++ front.written) front.rest more;
+      written = given ++ prefix.written;
+      rest = prefix.rest ++ more;
+      are = sym e ∙ ap (λ ps. (given ++ ps) ++ more) prefix.are ∙ ap (λ ps. ps ++ more) (sym (append_assoc given prefix.written prefix.rest))
+          ∙ append_assoc (given ++ prefix.written) prefix.rest more;
       least = omega arith;
       most = omega arith;
-      took = took_lines label given front.written before mid now took front.took;
+      took = took_lines label given prefix.written before mid now took prefix.took;
     }
 
 -- ---- the parts that are to come of a visit `v`, of which some were given and their lines written
@@ -170,10 +170,10 @@ given_cut {label = label} {before = before} {v = v} {count_at = count_at} {now =
     (cut_here label p now after count count_next gives.steps part)
 
 -- memory is wanting before the line of the next one
-pub given_front : {label : List ℕ} {before : Option (List ℕ)} {v : Visit} {count_at : ℕ} {now : Option (List ℕ)} {w : Visit} {count : ℕ}
+pub given_prefix : {label : List ℕ} {before : Option (List ℕ)} {v : Visit} {count_at : ℕ} {now : Option (List ℕ)} {w : Visit} {count : ℕ}
     → (count_next : ℕ) → IsGiven label before v count_at now w count → AtMostFirst w.pending count count_next
-    → IsFront label v.pending before now count_at count_next
-given_front {w = w} count_next g most =
+    → WrotePrefix label v.pending before now count_at count_next
+given_prefix {w = w} count_next g most =
     let so_far = g.counted in
     let least = most.0 in
     let next = most.1 in

@@ -1,3 +1,3 @@
 pub mod Cut
-pub mod Front
+pub mod Prefix
 pub mod Script

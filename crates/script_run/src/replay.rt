@@ -2,7 +2,7 @@
 ghost use Rattle.std.specs.Prelude.{◌≡◌, ◌+◌, ◌≤◌, ◌++◌, ◌∷◌, [], List, IfErr, OnErr, OnOk, map};
 ghost use Rattle.link_io.specs.Outside.{Rose, Took, TookLess};
 ghost use Rattle.script_run.specs.Cut.{IsCut};
-ghost use Rattle.script_run.specs.Front.{IsFront};
+ghost use Rattle.script_run.specs.Prefix.{WrotePrefix};
 ghost use Rattle.visit_meaning.specs.Answer.{Before, Message, cost_of_parts, frames_in, parts_from, solo, work};
 ghost use Rattle.frame_meaning.specs.FrameText.{frame_text, labelled};
 ghost use Rattle.visit_meaning.specs.Messages.{AreMessages};
@@ -88,8 +88,8 @@ fn drain<'n, O: Sink, L: Ledger>(
     ensures cut { IfErr result (λ fault. fault ≡ PlayFault.WriteFault
         → IsCut label.now kernel.old.pending (O.taken out.old)
         (O.taken out.new) steps.old steps.new) }
-    ensures front { IfErr result (λ fault. fault ≡ PlayFault.Memory
-        → IsFront label.now kernel.old.pending (O.taken out.old)
+    ensures prefix { IfErr result (λ fault. fault ≡ PlayFault.Memory
+        → WrotePrefix label.now kernel.old.pending (O.taken out.old)
         (O.taken out.new) steps.old steps.new) }
     ensures failed { IfErr result
         (λ fault. fault ≡ PlayFault.WriteFault → Rose (O.faults out.old) (O.faults out.new)) }
@@ -136,12 +136,12 @@ pub fn play<O: Sink, L: Ledger>(
         → IsCut label.now (parts_from (view_cells notebook.now) budget Before ms) (O.taken out.old)
         (O.taken out.new) steps.old steps.new) }
 
-    // Where memory is wanting, whole lines were written, those of a front of the frames, and no more steps are counted than theirs and those
+    // Where memory is wanting, whole lines were written, those of a prefix of the frames, and no more steps are counted than theirs and those
     // of one cell more.
-    ensures front { IfErr result
+    ensures prefix { IfErr result
         (λ fault. fault ≡ PlayFault.Memory → (ms : List Message)
         → AreMessages (map (λ m. m.now) messages.now) ms
-        → IsFront label.now (parts_from (view_cells notebook.now) budget Before ms) (O.taken out.old)
+        → WrotePrefix label.now (parts_from (view_cells notebook.now) budget Before ms) (O.taken out.old)
         (O.taken out.new) steps.old steps.new) }
     ensures later { O.faults out.old ≤ O.faults out.new }
     ensures failed { IfErr result

@@ -158,6 +158,10 @@ pub is_in_filter : (t : ℕ → Bool) (c : ℕ) (cs : List ℕ) → is_in c (fil
 is_in_filter t c [] = refl
 is_in_filter t c (d ∷ ds) = kept_by t c d ds (d == c) (t d) refl refl (is_in_filter t c ds)
 
+-- it is in the list
+pub in_all : (t : ℕ → Bool) (c : ℕ) (cs : List ℕ) → is_in c (filter t cs) ≡ true → is_in c cs ≡ true
+in_all t c cs h = (and_parts (is_in c cs) (t c) (sym (is_in_filter t c cs) ∙ h)).0
+
 -- a name that no cell defines
 pub defined_nowhere : (nb : List Cell) (cells : List ℕ) (x : Name) → ((a : ℕ) → is_among x (defs_of nb a) ≡ false) → defined_in nb cells x ≡ false
 defined_nowhere nb [] x none = refl

@@ -10,15 +10,18 @@ pub mod Outcomes
 pub mod InOrder
 pub mod FixedPoint
 pub mod ResultsOf
-pub mod AtKept
--- A rerun suffices: cells that run one after the other towards a new whole.
+-- Cells that run one after the other towards a whole.
 pub mod OneByOne
 pub mod Going
-pub mod RerunSuffices
-pub mod Standing
--- For `elements_in_being`: values that are set, and the elements that are in being.
+-- Values that are set, and the elements that are in being.
 pub mod SetValues
 pub mod InBeing
+pub mod AtKept
+-- For `rerun_suffices`: where only the cells that run again run.
+pub mod RerunSuffices
+pub mod Standing
+pub mod AfterCells
+-- For `elements_in_being`.
 pub mod PresentValues
 -- For `messages_are_read_one_way`.
 pub mod MessageTexts

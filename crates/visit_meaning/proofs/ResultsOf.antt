@@ -1,5 +1,5 @@
 -- The results of some cells of the whole, cell by cell.
-use Rattle.std.proofs.Common.{◌≡◌, ◌∙◌, refl, sym, ap, subst, ℕ, ◌+◌, Bool, true, false, cond, ◌&&◌, ◌||◌, ◌==◌, List, [], ◌∷◌, ◌++◌, length, map, filter, sum, Option, Some, ⊎_elim, length-append, arith}
+use Rattle.std.proofs.Common.{◌≡◌, ◌∙◌, refl, sym, ap, subst, ℕ, ◌+◌, Bool, true, false, cond, ◌&&◌, ◌||◌, ◌==◌, List, [], ◌∷◌, ◌++◌, length, filter, sum, Option, Some, ⊎_elim, length-append, arith}
 use Rattle.std.specs.Prelude.{flat_map, sum_by}
 use Rattle.std.proofs.lemmas.Bool.{cases_Bool, and_left, eq-eqb, eqb-true, false_from_ne_true, or_cases, or_from, or_left, or_parts, or_right, both_ways}
 use Rattle.std.proofs.lemmas.List.Sums.{sum_by-cons}
@@ -14,7 +14,7 @@ use Rattle.frames.specs.declared.frame.CellFrame.{CellFrame}
 use Rattle.frames.specs.declared.frame.Frame.{Frame}
 use Rattle.frames.specs.declared.frame.Frame.TheVariants as frame
 use Rattle.visit_meaning.proofs.FixedPoint.{cells_of, cost_at, whole_frames, whole_costs}
-use Rattle.visit_meaning.proofs.InOrder.{EachOnce, is_in_filter, order_once}
+use Rattle.visit_meaning.proofs.InOrder.{EachOnce, in_all, is_in_filter, order_once}
 
 -- ---- lists of numbers
 
@@ -155,12 +155,6 @@ costs_in (f ∷ frames) (n ∷ costs) long =
     sum_by-cons (λ (p : Part). p.cost) (record { frame = frame.Cell f; cost = n }) (priced frames costs)
     ∙ ap (λ r. n + r) (costs_in frames costs (omega arith)) ∙ sym (sum_by-cons (λ x. x) n costs)
 
-frames_are : (frames : List CellFrame) (costs : List ℕ) → length costs ≡ length frames
-    → map (λ (p : Part). p.frame) (priced frames costs) ≡ map frame.Cell frames
-frames_are [] costs long = refl
-frames_are (f ∷ frames) [] long = absurd (omega arith)
-frames_are (f ∷ frames) (n ∷ costs) long = ap (λ fs. frame.Cell f ∷ fs) (frames_are frames costs (omega arith))
-
 -- ---- the whole
 
 -- each cell of the whole has one frame
@@ -208,13 +202,7 @@ module _ (nb : List Cell) (budget : ℕ) (ui : Map Value) where
   one_each_all = one_each (order nb) (λ c h. h)
 
   pub one_each_kept : (t : ℕ → Bool) → length (flat_map (λ c. results_of nb budget ui (c ∷ [])) (filter t (order nb))) ≡ length (filter t (order nb))
-  one_each_kept t = one_each (filter t (order nb)) (passes_first t (order nb))
-    where
-      passes_first : (t : ℕ → Bool) (cs : List ℕ) (c : ℕ) → is_in c (filter t cs) ≡ true → is_in c cs ≡ true
-      passes_first t cs c h = ⊎_elim
-          (λ on. on)
-          (λ off. absurd (both_ways _ (is_in_filter t c cs ∙ and_left (is_in c cs) (t c) off) h))
-          (cases_Bool (is_in c cs))
+  one_each_kept t = one_each (filter t (order nb)) (λ c. in_all t c (order nb))
 
   -- the costs of all results, and their frames, are those of the whole
   pub all_costs : sum_by (λ (p : Part). p.cost) (results nb budget ui) ≡ sum (whole nb budget ui).costs

@@ -16,35 +16,26 @@ use Rattle.py_value.specs.declared.types.Data.{Data}
 use Rattle.py_value.specs.declared.types.Value.{Value}
 use Rattle.py_value.specs.declared.types.Value.TheVariants as V
 use Rattle.py_value.proofs.SortedMaps.{look_up-put, look_up-put_other, look_up-where_on, name_of, sorted_put}
-use Rattle.visit_meaning.specs.Answer.{element_in, named_so, names_of, next, value_set, with_sets, with_value}
+use Rattle.visit_meaning.specs.Answer.{element_in, named_so, names_of, present_after, value_set, with_sets, with_value}
 use Rattle.graph_meaning.specs.Graph.{elements_of, is_in}
 use Rattle.run_meaning.specs.Meaning.{Env}
 use Rattle.graph_meaning.specs.Reruns.{rerun}
+use Rattle.visit_meaning.specs.Rerun.{AllSet, laid_over}
 use Rattle.visit_meaning.specs.WithElement.{with_element}
 use Rattle.run_meaning.specs.declared.binding.Binding.{Binding}
 use Rattle.run_meaning.specs.declared.binding.Binding.TheVariants.{Plain}
 use Rattle.py_tree.proofs.NamesOf.{among_append}
-
--- the bindings with those values laid over that are set, one after the other, where their elements admit them
-abbrev pub laid_over : Map Value → Env → Env
-laid_over [] env = env
-laid_over (s ∷ sets) env = laid_over sets (with_element s.0 (element_in env s.0) (value_set env s) env)
 
 -- the bindings with values laid over that are set, as the elements of `before` admit them
 abbrev pub laid_by : Env → Map Value → Env → Env
 laid_by before [] env = env
 laid_by before (s ∷ sets) env = laid_by before sets (with_element s.0 (element_in before s.0) (value_set before s) env)
 
--- each of the values is admitted by its element
-abbrev pub AllSet : Env → Map Value → Type 0
-AllSet env [] = Unit {0}
-AllSet env (s ∷ sets) = ((d : Data) × (value_set env s ≡ Some d)) × AllSet env sets
-
 some_or_none : {A : Type 0} (o : Option A) → is_none o ≡ false → (a : A) × (o ≡ Some a)
 some_or_none None h = absurd (both_ways true h refl)
 some_or_none (Some a) h = (a, refl)
 
--- so they are where the message isn't refused
+-- each of the values is admitted by its element where the message isn't refused
 pub all_set : (env : Env) (sets : Map Value) → find (λ (s : Name × Value). is_none (value_set env s)) sets ≡ None → AllSet env sets
 all_set env [] e = tt
 all_set env (s ∷ sets) e = ⊎_elim
@@ -52,9 +43,21 @@ all_set env (s ∷ sets) e = ⊎_elim
     (λ no. (some_or_none (value_set env s) no, all_set env sets (rw no at e)))
     (cases_Bool (is_none (value_set env s)))
 
+-- and the message is refused where one isn't
+pub none_unfit : (env : Env) (sets : Map Value) → AllSet env sets → find (λ (s : Name × Value). is_none (value_set env s)) sets ≡ None
+none_unfit env [] all = refl
+none_unfit env (s ∷ sets) all =
+    ap (λ o. cond (is_none o) (Some s) (find (λ (s : Name × Value). is_none (value_set env s)) sets)) all.0.1 ∙ none_unfit env sets all.1
+
 -- an element that admits a value is there
 element_there : (env : Env) (s : Name × Value) (d : Data) → value_set env s ≡ Some d → (e : ElementData) × (element_in env s.0 ≡ Some e)
 element_there env s d h = option_and_then_some (λ e. admitted e (data_of s.1)) (element_in env s.0) d h (λ e is more. (e, is))
+
+pub none_unknown : (env : Env) (sets : Map Value) → AllSet env sets → find (λ (s : Name × Value). is_none (element_in env s.0)) sets ≡ None
+none_unknown env [] all = refl
+none_unknown env (s ∷ sets) all =
+    ap (λ o. cond (is_none o) (Some s) (find (λ (s : Name × Value). is_none (element_in env s.0)) sets)) (element_there env s all.0.0 all.0.1).1
+    ∙ none_unknown env sets all.1
 
 pub set_there : (env : Env) (sets : Map Value) (x : Name) → AllSet env sets → is_among x (names_of sets) ≡ true
     → (e : ElementData) × (element_in env x ≡ Some e)
@@ -153,7 +156,7 @@ some_of f (c ∷ cs) x h = ⊎_elim
 -- a name keeps its present value where no cell that runs again creates an element of this name
 pub next_kept : (nb : List Cell) (env : Env) (ui sets : Map Value) (x : Name)
     → ((c : ℕ) → is_in c (rerun nb (names_of sets)) ≡ true → is_among x (elements_of nb c) ≡ false)
-    → look_up x (next nb env ui sets) ≡ look_up x (with_sets env sets ui)
+    → look_up x (present_after nb env ui sets) ≡ look_up x (with_sets env sets ui)
 next_kept nb env ui sets x none =
     let dropped : List Name = flat_map (elements_of nb) (rerun nb (names_of sets)) in
     let absent : is_among x dropped ≡ false = false_from_ne_true _
@@ -226,9 +229,3 @@ laid_one_by_one before (s ∷ sets) env like =
 -- Values that are laid over one after the other are admitted as they were before.
 pub laid_is : (sets : Map Value) (env : Env) → laid_over sets env ≡ laid_by env sets env
 laid_is sets env = laid_one_by_one env sets env (λ x. same_element (element_in env x))
-
-like_by : (before : Env) (sets : Map Value) (env : Env) → IsLike before env → IsLike before (laid_by before sets env)
-like_by before [] env like = like
-like_by before (s ∷ sets) env like =
-    like_by before sets (with_element s.0 (element_in before s.0) (value_set before s) env)
-    (like_laid before env s.0 (element_in before s.0) (value_set before s) refl like)

@@ -1,5 +1,8 @@
-// Laws and worked examples, proved from the definitions.
-ghost use Rattle.std.specs.Prelude.{◌≡◌, ◌↔◌, ℕ, true, List, Some};
+// Laws, proved from the definitions.
+ghost use Rattle.std.specs.Prelude.{◌≡◌, ◌↔◌, ℕ, true, List, [], Option, Some};
+ghost use Rattle.frames.specs.declared.frame.CellFrame.{CellFrame};
+ghost use Rattle.graph_meaning.specs.Graph.{elements_of, order, NoneDoubled, NoneCyclic};
+ghost use Rattle.graph_meaning.specs.Reruns.{rerun};
 ghost use Rattle.py_tree.specs.Names.{Name, is_among};
 ghost use Rattle.py_tree.specs.Trees.{Cell};
 ghost use Rattle.py_value.specs.ElementData.{ElementData};
@@ -7,11 +10,38 @@ ghost use Rattle.py_value.specs.Maps.{Map, look_up};
 ghost use Rattle.py_value.specs.View.{value_of as value_in};
 ghost use Rattle.py_value.specs.declared.types.Data.{Data};
 ghost use Rattle.py_value.specs.declared.types.Value.{Value};
-ghost use Rattle.visit_meaning.specs.Answer.{Before, On, Message, element_in, state_after, value_set};
-ghost use Rattle.graph_meaning.specs.Graph.{elements_of, NoneDoubled, NoneCyclic};
+ghost use Rattle.visit_meaning.specs.Answer.{Before, On, Message, Set, answer, counted, element_in, names_of, present_after, state_after, value_set};
 ghost use Rattle.visit_meaning.specs.Messages.{IsMessage};
-ghost use Rattle.visit_meaning.specs.Whole.{ended_ok, whole};
+ghost use Rattle.visit_meaning.specs.Rerun.{AllSet, IsAfresh, Kept, after_cells, given_by, nothing_bound, with_values};
 ghost use Rattle.visit_meaning.specs.Runnable.{Runnable};
+ghost use Rattle.visit_meaning.specs.Whole.{ended_ok, whole};
+
+/// Why it suffices to run again only the cells that a change reaches.
+///
+/// What is kept is afresh where it is what the whole notebook gives that runs from nothing: its bindings at the end, and the frame of each
+/// cell. So it is after the opening, whatever frames were kept before. When values are set that their elements admit, they are laid over
+/// the bindings, and only the cells of `rerun` run (`what_runs_again` says which they are), one after the other, each from what is kept
+/// then. At the end what is kept is afresh again, with the new present values; and what the cells gave on the way, with the number of these
+/// frames, is the answer to the message.
+pub fn rerun_suffices()
+    ensures opened { (nb : List Cell) → Runnable nb → NoneDoubled nb → NoneCyclic nb
+        → (budget : ℕ) (newest : ℕ → Option CellFrame)
+        → IsAfresh nb budget [] (after_cells nb budget [] (order nb) (nothing_bound newest)) }
+    ensures kept { (nb : List Cell) → Runnable nb → NoneDoubled nb → NoneCyclic nb
+        → (budget : ℕ) (ui sets : Map Value) (kept : Kept)
+        → IsAfresh nb budget ui kept → AllSet kept.env sets
+        → let present : Map Value = present_after nb kept.env ui sets in
+        IsAfresh nb budget present
+        (after_cells nb budget present (rerun nb (names_of sets)) (with_values sets kept)) }
+    ensures given { (nb : List Cell) → Runnable nb → NoneDoubled nb → NoneCyclic nb
+        → (budget : ℕ) (ui sets : Map Value) (kept : Kept)
+        → IsAfresh nb budget ui kept → AllSet kept.env sets
+        → let present : Map Value = present_after nb kept.env ui sets in
+        answer nb budget (On ui) (Set sets) ≡ record {
+          state = On present;
+          parts = counted (given_by nb budget present (rerun nb (names_of sets)) (with_values sets kept));
+        } }
+{}
 
 /// No bytes are two messages.
 pub fn messages_are_read_one_way()

@@ -1,3 +1,4 @@
+// Files that have the form and files that don't: the cells that are read, or the line that is named.
 use super::*;
 use std::alloc::AllocError;
 use std::test::Fail;

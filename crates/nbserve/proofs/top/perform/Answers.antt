@@ -16,4 +16,4 @@ returns-in-Err-WriteFault g c = λ ms are.
     done.cut refl (c.in-Err-WriteFault.ensures.failed c.in-Err-WriteFault.field-0-is) (cut.in_frame (c.in-Err-WriteFault.ensures.cut c.in-Err-WriteFault.field-0-is ms are))
 
 pub returns-in-Err-Memory : goal.returns-in-Err-Memory
-returns-in-Err-Memory g c = λ ms are. done.front refl (c.in-Err-Memory.ensures.front c.in-Err-Memory.field-0-is ms are)
+returns-in-Err-Memory g c = λ ms are. done.prefix refl (c.in-Err-Memory.ensures.prefix c.in-Err-Memory.field-0-is ms are)

@@ -6,7 +6,7 @@ use Rattle.link_io.proofs.Taken.{took_none}
 use Rattle.nbserve.specs.Output as output
 use Rattle.nbserve.specs.Output.{RunsTo}
 use Rattle.nbserve.specs.declared.command_fault.CommandFault.TheVariants as stop
-use Rattle.nbserve.proofs.Output.{runs_accepted, runs_complete, runs_cut, runs_front, runs_no_script, runs_range, runs_read, runs_refused, runs_steps, runs_unrun, runs_usage, runs_write, stopped_runs}
+use Rattle.nbserve.proofs.Output.{runs_accepted, runs_complete, runs_cut, runs_prefix, runs_no_script, runs_range, runs_read, runs_refused, runs_steps, runs_unrun, runs_usage, runs_write, stopped_runs}
 use Rattle.nbserve.proofs.top.run_words.Goals as goal
 
 pub returns-in-Ok : goal.returns-in-Ok
@@ -27,7 +27,7 @@ returns-in-Ok g c =
       complete = runs_complete _ _ _ _ _ _ _ _ _ runs;
       steps = runs_steps _ _ _ _ _ _ _ _ _ runs;
       cut = runs_cut _ _ _ _ _ _ _ _ _ runs;
-      front = runs_front _ _ _ _ _ _ _ _ _ runs;
+      prefix = runs_prefix _ _ _ _ _ _ _ _ _ runs;
       refused = runs_refused _ _ _ _ _ _ _ _ _ runs;
       no_script = runs_no_script _ _ _ _ _ _ _ _ _ runs;
       unrun = runs_unrun _ _ _ _ _ _ _ _ _ runs;
@@ -60,7 +60,7 @@ returns-in-Err g c =
       complete = runs_complete _ _ _ _ _ _ _ _ _ runs;
       steps = runs_steps _ _ _ _ _ _ _ _ _ runs;
       cut = runs_cut _ _ _ _ _ _ _ _ _ runs;
-      front = runs_front _ _ _ _ _ _ _ _ _ runs;
+      prefix = runs_prefix _ _ _ _ _ _ _ _ _ runs;
       refused = runs_refused _ _ _ _ _ _ _ _ _ runs;
       no_script = runs_no_script _ _ _ _ _ _ _ _ _ runs;
       unrun = runs_unrun _ _ _ _ _ _ _ _ _ runs;

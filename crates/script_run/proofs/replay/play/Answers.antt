@@ -6,12 +6,12 @@ use Rattle.visit_meaning.specs.Answer.{Message, Before, parts_from}
 use Rattle.visit_meaning.specs.Messages.{AreMessages}
 use Rattle.py_tree.specs.Trees.{Cell}
 use Rattle.py_tree.specs.View.{view_cells}
-use Rattle.script_run.proofs.GivenFrames.{cut_behind, front_behind, front_none, lines_of, took_lines}
+use Rattle.script_run.proofs.GivenFrames.{cut_behind, prefix_behind, prefix_none, lines_of, took_lines}
 use Rattle.kernel.proofs.Results.{if_err_always, if_err_of}
 use Rattle.script_run.proofs.PlayedMessages.{played_all, played_answer, played_begins, played_message, played_new}
 use Rattle.script_run.proofs.replay.play.Goals as goal
 use Rattle.script_run.specs.Cut.{IsCut}
-use Rattle.script_run.specs.Front.{IsFront}
+use Rattle.script_run.specs.Prefix.{WrotePrefix}
 use Rattle.script_run.specs.declared.replay.PlayFault.{PlayFault}
 use Rattle.script_run.specs.declared.replay.PlayFault.TheVariants as play_fault
 
@@ -19,22 +19,22 @@ pub loop-message-init : goal.loop-message-init
 loop-message-init g c =
     (omega arith, ([], played_new c.args.notebook.now c.args.budget c.args.steps.now c.in_ok-kernel.kernel c.in_ok-kernel.ensures, took_none _))
 
-pub returns-in_err-kernel-clause-front : goal.returns-in_err-kernel-clause-front
-returns-in_err-kernel-clause-front g c =
-    let Front : Type 0 = (ms : List Message) → AreMessages (map (λ m. m.now) c.args.messages.now) ms
-    → IsFront c.args.label.now (parts_from (view_cells c.args.notebook.now) c.args.budget Before ms) (g.O.Sink.taken c.args.out.now) (g.O.Sink.taken c.args.out.now) c.args.steps.now c.args.steps.now in
-    let front_whatever : (fault : PlayFault) → fault ≡ play_fault.Memory → Front = λ fault memory ms are. front_none _ _ _ _ in
-    if_err_always _ _ front_whatever
+pub returns-in_err-kernel-clause-prefix : goal.returns-in_err-kernel-clause-prefix
+returns-in_err-kernel-clause-prefix g c =
+    let Prefix : Type 0 = (ms : List Message) → AreMessages (map (λ m. m.now) c.args.messages.now) ms
+    → WrotePrefix c.args.label.now (parts_from (view_cells c.args.notebook.now) c.args.budget Before ms) (g.O.Sink.taken c.args.out.now) (g.O.Sink.taken c.args.out.now) c.args.steps.now c.args.steps.now in
+    let prefix_whatever : (fault : PlayFault) → fault ≡ play_fault.Memory → Prefix = λ fault memory ms are. prefix_none _ _ _ _ in
+    if_err_always _ _ prefix_whatever
 
-pub returns-in_err-_taken-clause-front : goal.returns-in_err-_taken-clause-front
-returns-in_err-_taken-clause-front g c =
+pub returns-in_err-_taken-clause-prefix : goal.returns-in_err-_taken-clause-prefix
+returns-in_err-_taken-clause-prefix g c =
     let so_far = c.loop-message.invariant.1 in
-    let Front : Type 0 = (ms : List Message) → AreMessages (map (λ m. m.now) c.args.messages.now) ms
-    → IsFront c.args.label.now (parts_from (view_cells c.args.notebook.now) c.args.budget Before ms) (g.O.Sink.taken c.args.out.now) (g.O.Sink.taken c.loop-message.out) c.args.steps.now c.loop-message.steps in
-    let front_whatever : (fault : PlayFault) → fault ≡ play_fault.Memory → Front = λ fault memory ms are.
+    let Prefix : Type 0 = (ms : List Message) → AreMessages (map (λ m. m.now) c.args.messages.now) ms
+    → WrotePrefix c.args.label.now (parts_from (view_cells c.args.notebook.now) c.args.budget Before ms) (g.O.Sink.taken c.args.out.now) (g.O.Sink.taken c.loop-message.out) c.args.steps.now c.loop-message.steps in
+    let prefix_whatever : (fault : PlayFault) → fault ≡ play_fault.Memory → Prefix = λ fault memory ms are.
     let begins = played_begins c.args.messages.now c.loop-message.message-index so_far.1 ms are in
-    front_behind so_far.0 [] begins.0 _ _ _ _ _ (ap (λ ps. ps ++ begins.0) (append-nil so_far.0) ∙ begins.1) so_far.2 so_far.1.steps (front_none _ _ _ _) in
-    if_err_always _ _ front_whatever
+    prefix_behind so_far.0 [] begins.0 _ _ _ _ _ (ap (λ ps. ps ++ begins.0) (append-nil so_far.0) ∙ begins.1) so_far.2 so_far.1.steps (prefix_none _ _ _ _) in
+    if_err_always _ _ prefix_whatever
 
 pub returns-in_err-drain-clause-cut : goal.returns-in_err-drain-clause-cut
 returns-in_err-drain-clause-cut g c =
@@ -52,8 +52,8 @@ returns-in_err-drain-clause-cut g c =
     let begins = played_begins c.args.messages.now (i + 1) next ms are in
     cut_behind so_far.0 w.pending begins.0 _ _ _ _ _ begins.1 so_far.2 so_far.1.steps (c.in_err-drain.ensures.cut unwritten))
 
-pub returns-in_err-drain-clause-front : goal.returns-in_err-drain-clause-front
-returns-in_err-drain-clause-front g c =
+pub returns-in_err-drain-clause-prefix : goal.returns-in_err-drain-clause-prefix
+returns-in_err-drain-clause-prefix g c =
     let so_far = c.loop-message.invariant.1 in
     let i = c.loop-message.message-index in
     let w = c.deliver.new.self in
@@ -61,12 +61,12 @@ returns-in_err-drain-clause-front g c =
     let nb : List Cell = view_cells c.args.notebook.now in
     let next = played_answer c.args.messages.now i c.in_ok-_taken._taken w c.loop-message-test.true so_far.1 c.in_ok-_taken.ensures.delivers in
     let why = c.in_err-drain.field-0.0 in
-    let Front : PlayFault → Type 0 = λ fault. fault ≡ play_fault.Memory → (ms : List Message) → AreMessages (map (λ m. m.now) c.args.messages.now) ms
-    → IsFront label (parts_from nb c.args.budget Before ms) (g.O.Sink.taken c.args.out.now) (g.O.Sink.taken c.drain.new.out) c.args.steps.now c.drain.new.steps in
-    if_err_of c.from_residual-in_err-drain.result why Front c.from_residual-in_err-drain.ensures.1
+    let Prefix : PlayFault → Type 0 = λ fault. fault ≡ play_fault.Memory → (ms : List Message) → AreMessages (map (λ m. m.now) c.args.messages.now) ms
+    → WrotePrefix label (parts_from nb c.args.budget Before ms) (g.O.Sink.taken c.args.out.now) (g.O.Sink.taken c.drain.new.out) c.args.steps.now c.drain.new.steps in
+    if_err_of c.from_residual-in_err-drain.result why Prefix c.from_residual-in_err-drain.ensures.1
     (λ memory ms are.
     let begins = played_begins c.args.messages.now (i + 1) next ms are in
-    front_behind so_far.0 w.pending begins.0 _ _ _ _ _ begins.1 so_far.2 so_far.1.steps (c.in_err-drain.ensures.front memory))
+    prefix_behind so_far.0 w.pending begins.0 _ _ _ _ _ begins.1 so_far.2 so_far.1.steps (c.in_err-drain.ensures.prefix memory))
 
 pub loop-message-preserved : goal.loop-message-preserved
 loop-message-preserved g c =

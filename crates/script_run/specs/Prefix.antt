@@ -5,9 +5,9 @@ use Rattle.visit_meaning.specs.Answer.{Part, cost_of_parts, frames_in}
 use Rattle.frame_meaning.specs.FrameText.{labelled}
 use Rattle.kernel.specs.Visit.{first_cost}
 
--- The whole lines of a front of the parts were written, and nothing else. Their steps are counted, and no more than those of one part behind
+-- The whole lines of a prefix of the parts were written, and nothing else. Their steps are counted, and no more than those of one part behind
 -- them.
-pub record IsFront (label : List ℕ) (parts : List Part) (before now : Option (List ℕ)) (count count_after : ℕ) : Type 0 where
+pub record WrotePrefix (label : List ℕ) (parts : List Part) (before now : Option (List ℕ)) (count count_after : ℕ) : Type 0 where
   pub written : List Part
   pub rest : List Part
   pub are : parts ≡ written ++ rest
