@@ -17,6 +17,17 @@ use Rattle.cell_graph.proofs.OrderPlaces.{cells_inside, cells_once, placed}
 use Rattle.cell_graph.proofs.OrderSteps.{parents_within}
 use Rattle.cell_graph.proofs.build.notebook.Goals as goal
 
+pub returns-clause-free : goal.returns-clause-free
+returns-clause-free c =
+    let nb : List Cell = view_cells c.args.cells.items in
+    let defined : AreDefs nb c.as_slice-3.result.now = search (arith, c.in_ok-defs.ensures) in
+    let referenced : AreRefs nb c.as_slice-4.result.now = search (arith, c.in_ok-refs.ensures) in
+    let parents = c.in_ok-parents.ensures.parents nb defined referenced in
+    let ordered = c.in_ok-order.ensures nb (search (arith, parents)) in
+    let size = length-map c.args.cells.items view_cell in
+    let full : length (order nb) ≡ length nb = omega (arith, ap length ordered, order_fits nb) in
+    full_is_free nb full
+
 pub all_children-requires-clause-within : goal.all_children-requires-clause-within
 all_children-requires-clause-within c =
     let nb : List Cell = view_cells c.args.cells.items in
@@ -111,14 +122,3 @@ invariant_of-result c =
       subst (λ (os : List ℕ). ArePlaced os seats c.in_ok-children.children.items) (sym ordered) (placed nb full free seats count each c.in_ok-parents.parents.items c.in_ok-children.children.items parents turned),
       subst (λ (rs : List (List Name)). HasReaders rs c.in_ok-readers.readers) c.as_slice-10.ensures.value c.in_ok-readers.ensures,
     )
-
-pub returns-clause-free : goal.returns-clause-free
-returns-clause-free c =
-    let nb : List Cell = view_cells c.args.cells.items in
-    let defined : AreDefs nb c.as_slice-3.result.now = search (arith, c.in_ok-defs.ensures) in
-    let referenced : AreRefs nb c.as_slice-4.result.now = search (arith, c.in_ok-refs.ensures) in
-    let parents = c.in_ok-parents.ensures.parents nb defined referenced in
-    let ordered = c.in_ok-order.ensures nb (search (arith, parents)) in
-    let size = length-map c.args.cells.items view_cell in
-    let full : length (order nb) ≡ length nb = omega (arith, ap length ordered, order_fits nb) in
-    full_is_free nb full

@@ -1,5 +1,5 @@
 -- A name is new, or stands in this list already, or stands in an earlier one.
-use Rattle.std.proofs.Common.{◌≡◌, ℕ, ◌+◌, ◌⊎◌, inl, inr, List, [], ◌∷◌, ◌++◌, length, take, cond, Option, Some, None, sym, ap, ◌∙◌, subst}
+use Rattle.std.proofs.Common.{◌≡◌, ℕ, ◌+◌, ◌⊎◌, inl, inr, List, [], ◌∷◌, ◌++◌, length, take, cond, Option, Some, None, sym, ap, ◌∙◌, subst, arith}
 use Rattle.std.specs.Str.{bytes_eq}
 use Rattle.std.proofs.lemmas.List.{take_more}
 use Rattle.std.proofs.lemmas.Map.Text.{hash_map_updates_str}
@@ -23,7 +23,7 @@ returns-then-first-cell-clause-refused c nb lists later same kept f =
     let here : at x ≡ Some c.in-Some.first = ap at (sym c.items.ensures) ∙ sym c.in_ok-first.ensures.old ∙ c.in-Some.is in
     let again =
     doubled nb lists later c.args.names.now kept c.loop-name.name-index at (c.loop-name.invariant lists same f) x c.in-Some.first here
-    (λ e. c.if-first-cell.true (e ∙ same)) c.loop-name-test.true c.name-item.is in
+    (λ e. omega (arith, c.if-first-cell.true, e, same)) c.loop-name-test.true c.name-item.is in
     let named : c.in_ok-doubly.field-0 ≡ Doubly x c.in-Some.first (length lists) =
     c.in_ok-doubly.ensures ∙ (λ j. Doubly (c.items-then-first-cell.ensures j) c.in-Some.first (sym same j)) in
     subst (λ (e : GraphFault). IsCauseOf e nb) (sym named) again
@@ -39,7 +39,7 @@ loop-name-preserved c lists same f =
     let was : at x ≡ c.in_ok-first.field-0 = ap at (sym c.items.ensures) ∙ sym c.in_ok-first.ensures.old in
     let free : (at x ≡ None) ⊎ (at x ≡ Some (length lists)) =
     elim c.match-branch-2.branch [
-      | in-Some+else-first-cell w ↦ inr (was ∙ w.in-Some.is ∙ ap Some (w.if-first-cell.false ∙ sym same))
+      | in-Some+else-first-cell w ↦ inr (was ∙ w.in-Some.is ∙ ap Some (omega (arith, w.if-first-cell.false, same)))
       | in_default w ↦ inl (was ∙ w.in_default.is)
     ] in
     let added = one_name lists names x at (c.loop-name.invariant lists same f) free in

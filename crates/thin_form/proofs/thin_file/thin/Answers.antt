@@ -13,6 +13,29 @@ use Rattle.py_tree.specs.TextLines.{text_of}
 use Rattle.py_tree.specs.View.{view_cells}
 use Rattle.thin_form.proofs.thin_file.thin.Goals as goal
 
+pub returns-clause-cells : goal.returns-clause-cells
+returns-clause-cells c =
+    let es = as_elements c.in_ok-elements.elements in
+    let bytes = ap (λ (a : At). a.bytes) c.new-reader.ensures in
+    let are : AreElements c.args.bytes.now es = c.in_ok-elements.ensures in
+    let here : AreElements c.new-reader.result.bytes es = rw bytes are in
+    let line = ap (λ (a : At). a.line) c.new-reader.ensures in
+    let room = ap (λ (a : At). a.room) c.new-reader.ensures in
+    let size : length c.new-reader.result.bytes ≤ 1048576 = rw bytes (omega arith) in
+    let none = empty c.expect-4.new.self.bytes (eqb-true _ _ (sym c.if-not-is_at_end.ensures)) in
+    rw bytes at (form es c.new-reader.result c.expect.new.self c.expect-2.new.self c.read_cells.new.reader c.expect-3.new.self c.expect-4.new.self (view_cells c.in_ok-cells.cells.items) here line room size c.in_ok-expect.ensures.found c.in_ok-expect-2.ensures.found c.in_ok-cells.ensures.found c.in_ok-expect-3.ensures.found c.in_ok-expect-4.ensures.found none)
+
+pub returns-clause-only : goal.returns-clause-only
+returns-clause-only c nb h =
+    let es = as_elements c.in_ok-elements.elements in
+    let bytes = ap (λ (a : At). a.bytes) c.new-reader.ensures in
+    let are : AreElements c.args.bytes.now es = c.in_ok-elements.ensures in
+    let here : AreElements c.new-reader.result.bytes es = rw bytes are in
+    let line = ap (λ (a : At). a.line) c.new-reader.ensures in
+    let room = ap (λ (a : At). a.room) c.new-reader.ensures in
+    let w = at_cells es c.new-reader.result c.expect.new.self c.expect-2.new.self nb here line room c.in_ok-expect.ensures.found c.in_ok-expect-2.ensures.found (rw bytes h) in
+    (c.in_ok-cells.ensures.only nb (text_of footer) w.fits w.room w.bytes no_line no_cell).0
+
 pub returns-in_err-expect-clause-refused : goal.returns-in_err-expect-clause-refused
 returns-in_err-expect-clause-refused c =
     let p = err_from_is_err_and c.from_residual-in_err-expect.result c.from_residual-in_err-expect.ensures.1 in
@@ -103,26 +126,3 @@ returns-then-not-is_at_end-clause-refused c =
     let last = before_last c.read_cells.new.reader c.expect-3.new.self c.in_ok-expect-3.ensures.found o.1 in
     let none = at_end c.expect-3.new.self c.expect-4.new.self c.in_ok-expect-4.ensures.found last in
     absurd (eqb-false _ _ (sym c.if-not-is_at_end.ensures) (ap length none))) stop
-
-pub returns-clause-cells : goal.returns-clause-cells
-returns-clause-cells c =
-    let es = as_elements c.in_ok-elements.elements in
-    let bytes = ap (λ (a : At). a.bytes) c.new-reader.ensures in
-    let are : AreElements c.args.bytes.now es = c.in_ok-elements.ensures in
-    let here : AreElements c.new-reader.result.bytes es = rw bytes are in
-    let line = ap (λ (a : At). a.line) c.new-reader.ensures in
-    let room = ap (λ (a : At). a.room) c.new-reader.ensures in
-    let size : length c.new-reader.result.bytes ≤ 1048576 = rw bytes (omega arith) in
-    let none = empty c.expect-4.new.self.bytes (eqb-true _ _ (sym c.if-not-is_at_end.ensures)) in
-    rw bytes at (form es c.new-reader.result c.expect.new.self c.expect-2.new.self c.read_cells.new.reader c.expect-3.new.self c.expect-4.new.self (view_cells c.in_ok-cells.cells.items) here line room size c.in_ok-expect.ensures.found c.in_ok-expect-2.ensures.found c.in_ok-cells.ensures.found c.in_ok-expect-3.ensures.found c.in_ok-expect-4.ensures.found none)
-
-pub returns-clause-only : goal.returns-clause-only
-returns-clause-only c nb h =
-    let es = as_elements c.in_ok-elements.elements in
-    let bytes = ap (λ (a : At). a.bytes) c.new-reader.ensures in
-    let are : AreElements c.args.bytes.now es = c.in_ok-elements.ensures in
-    let here : AreElements c.new-reader.result.bytes es = rw bytes are in
-    let line = ap (λ (a : At). a.line) c.new-reader.ensures in
-    let room = ap (λ (a : At). a.room) c.new-reader.ensures in
-    let w = at_cells es c.new-reader.result c.expect.new.self c.expect-2.new.self nb here line room c.in_ok-expect.ensures.found c.in_ok-expect-2.ensures.found (rw bytes h) in
-    (c.in_ok-cells.ensures.only nb (text_of footer) w.fits w.room w.bytes no_line no_cell).0
