@@ -18,8 +18,6 @@ mod raw_bytes;
 mod repr;
 mod sameness;
 mod sizes;
-#[cfg(test)]
-mod tests;
 mod texts;
 mod types;
 

@@ -1,8 +1,8 @@
 // Sliders. What is wanted follows from marimo's documentation, "Inputs", and from what Python says of arguments.
-use crate::{AdmitFault, Args, Word, Words, admit, make, shown};
 use py_value::{Element, Kind, Memory, OpFault, Text, Value, Values};
 use std::alloc::Global;
 use std::test::Fail;
+use ui_elements::{AdmitFault, Args, Word, Words, admit, make, shown};
 
 // A value of a test.
 #[derive(Clone, Copy)]
@@ -75,60 +75,51 @@ fn slider_text(alloc: Global, given: &[Given]) -> Result<Text, OpFault> {
 
 #[test]
 fn makes_sliders(rt: HostRuntime) -> Result<(), Fail> {
-    let alloc = rt.alloc();
-    let got = slider_text(alloc, &[At(Int(0)), At(Int(10))])?;
-    assert_eq!(rt;
-        got.items(),
-        "<slider s start=0 stop=10 step=1 value=0 label=''>"
-    );
-    let got = slider_text(alloc, &[At(Int(0)), At(Int(10)), At(Int(5))])?;
-    assert_eq!(rt;
-        got.items(),
-        "<slider s start=0 stop=10 step=5 value=0 label=''>"
-    );
-    let got = slider_text(alloc, &[At(Int(0)), At(Int(10)), By("value", Int(3))])?;
-    assert_eq!(rt;
-        got.items(),
-        "<slider s start=0 stop=10 step=1 value=3 label=''>"
-    );
-    let got = slider_text(
-        alloc,
-        &[At(Int(1)), At(Int(5)), By("label", Sample::Text("n"))],
-    )?;
-    assert_eq!(rt;
-        got.items(),
-        "<slider s start=1 stop=5 step=1 value=1 label='n'>"
-    );
-    Ok(())
-}
-
-#[test]
-fn makes_sliders_at_the_ends(rt: HostRuntime) -> Result<(), Fail> {
-    let alloc = rt.alloc();
-    let got = slider_text(alloc, &[By("stop", Int(9)), By("start", Int(-9))])?;
-    assert_eq!(rt;
-        got.items(),
-        "<slider s start=-9 stop=9 step=1 value=-9 label=''>"
-    );
-    let got = slider_text(alloc, &[At(Int(3)), At(Int(3))])?;
-    assert_eq!(rt;
-        got.items(),
-        "<slider s start=3 stop=3 step=1 value=3 label=''>"
-    );
-    let label = At(Sample::Text("it's"));
-    let got = slider_text(
-        alloc,
-        &[At(Int(0)), At(Int(9)), At(Int(2)), At(Int(8)), label],
-    )?;
-    assert_eq!(rt;
-        got.items(),
-        "<slider s start=0 stop=9 step=2 value=8 label=\"it's\">"
-    );
-    let (least, most) = (Int(i128::MIN), Int(i128::MAX));
-    let got = slider_text(alloc, &[At(least), At(most), At(most), At(Int(-1))])?;
-    let wanted =
-        "<slider s start=-170141183460469231731687303715884105728 stop=170141183460469231731687303715884105727 step=170141183460469231731687303715884105727 value=-1 label=''>";
-    assert_eq!(rt; got.items(), wanted);
+    let (zero, ten) = (At(Int(0)), At(Int(10)));
+    let (least, most) = (At(Int(i128::MIN)), At(Int(i128::MAX)));
+    let cases: [(&[Given], &str); 8] = [
+        (
+            &[zero, ten],
+            "<slider s start=0 stop=10 step=1 value=0 label=''>",
+        ),
+        (
+            &[zero, ten, At(Int(5))],
+            "<slider s start=0 stop=10 step=5 value=0 label=''>",
+        ),
+        (
+            &[zero, ten, By("value", Int(3))],
+            "<slider s start=0 stop=10 step=1 value=3 label=''>",
+        ),
+        (
+            &[At(Int(1)), At(Int(5)), By("label", Sample::Text("n"))],
+            "<slider s start=1 stop=5 step=1 value=1 label='n'>",
+        ),
+        (
+            &[By("stop", Int(9)), By("start", Int(-9))],
+            "<slider s start=-9 stop=9 step=1 value=-9 label=''>",
+        ),
+        (
+            &[At(Int(3)), At(Int(3))],
+            "<slider s start=3 stop=3 step=1 value=3 label=''>",
+        ),
+        (
+            &[
+                zero,
+                At(Int(9)),
+                At(Int(2)),
+                At(Int(8)),
+                At(Sample::Text("it's")),
+            ],
+            "<slider s start=0 stop=9 step=2 value=8 label=\"it's\">",
+        ),
+        (
+            &[least, most, most, At(Int(-1))],
+            "<slider s start=-170141183460469231731687303715884105728 stop=170141183460469231731687303715884105727 step=170141183460469231731687303715884105727 value=-1 label=''>",
+        ),
+    ];
+    for (given, wanted) in cases {
+        assert_eq!(rt; slider_text(rt.alloc(), given)?.items(), wanted);
+    }
     Ok(())
 }
 
@@ -163,12 +154,8 @@ fn refuses_calls(rt: HostRuntime) -> Result<(), Fail> {
         let got = slider(alloc, given).err().ok_or("made")?;
         assert_eq!(rt; got, wanted);
     }
-    Ok(())
-}
-
-#[test]
-fn other_kinds_are_outside(rt: HostRuntime) -> Result<(), Fail> {
-    let got = called(rt.alloc(), Kind::Number, &[At(Int(0)), At(Int(1))]);
+    // other kinds are outside
+    let got = called(alloc, Kind::Number, &[zero, ten]);
     assert_eq!(rt; got.err().ok_or("made")?, OpFault::Subset);
     Ok(())
 }

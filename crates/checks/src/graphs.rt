@@ -1,30 +1,19 @@
 // Small notebooks: a cell is given by the name that it binds and the names that it adds up.
-use crate::{GraphFault, defs, notebook, refs};
-use py_tree::{Block, CellCode, Expr, Line, Spelling, Spellings, Stmt, Token, TokenKind};
+use crate::trees::{added, named, number, spelled};
+use cell_graph::{defs, notebook, refs};
+use py_tree::{Block, CellCode, Expr, Line, Spellings, Stmt};
 use py_value::{Lines, Memory, Text};
-use sqlite_items::Boxed;
 use std::alloc::Global;
 use std::test::Fail;
 
 type Row<'a> = (&'a str, &'a [&'a str]);
 
-fn spelled(alloc: Global, text: &str) -> Result<Spelling, Memory> {
-    Ok(Spelling::of(String::from_str(alloc, text)?))
-}
-
-fn boxed(alloc: Global, tree: Expr) -> Result<Boxed<Expr>, Memory> {
-    Ok(Boxed::new(alloc, tree)?)
-}
-
 // `1`, and these names added to it
 fn one_and(alloc: Global, names: &[&str]) -> Result<Expr, Memory> {
-    let mut tree = Expr::Literal(Token {
-        kind: TokenKind::Number,
-        spelling: spelled(alloc, "1")?,
-    });
+    let mut tree = number(alloc, "1")?;
     for name in names {
-        let left = boxed(alloc, tree)?;
-        tree = Expr::Sum(left, boxed(alloc, Expr::Name(spelled(alloc, *name)?))?);
+        let name = named(alloc, *name)?;
+        tree = added(alloc, tree, name)?;
     }
     Ok(tree)
 }
@@ -56,15 +45,6 @@ fn cells(alloc: Global, rows: &[Row]) -> Result<Vec<CellCode>, Memory> {
     let mut all = Vec::new(alloc);
     for row in rows {
         all.push(cell(alloc, &[*row])?)?;
-    }
-    Ok(all)
-}
-
-// a cell for each list of rows
-fn cells_of_lines(alloc: Global, cells: &[&[Row]]) -> Result<Vec<CellCode>, Memory> {
-    let mut all = Vec::new(alloc);
-    for rows in cells {
-        all.push(cell(alloc, *rows)?)?;
     }
     Ok(all)
 }
@@ -122,99 +102,11 @@ fn orders_cells(rt: HostRuntime) -> Result<(), Fail> {
     Ok(())
 }
 
-// whether the fault names this name and these two cells
-fn is_doubly(fault: &GraphFault, wanted: &str, earliest: u32, again: u32) -> bool {
-    match fault {
-        GraphFault::Doubly {
-            name,
-            first,
-            second,
-        } => name.items() == wanted && *first == earliest && *second == again,
-        _ => false,
-    }
-}
-
-// whether the fault lists these cells
-fn is_cycle(fault: &GraphFault, wanted: &[u32]) -> bool {
-    match fault {
-        GraphFault::Cycle { cells } => cells.items() == wanted,
-        _ => false,
-    }
-}
-
-#[test]
-fn refuses_names_again(rt: HostRuntime) -> Result<(), Fail> {
-    let twice: &[&[Row]] = &[&[("a", &[])], &[("b", &[])], &[("c", &[])], &[("b", &[])]];
-    let thrice: &[&[Row]] = &[
-        &[("a", &[])],
-        &[("x", &["a"])],
-        &[("a", &[])],
-        &[("a", &[])],
-    ];
-    let two_names: &[&[Row]] = &[&[("q", &[])], &[("p", &[])], &[("p", &[]), ("q", &[])]];
-    let two_cells: &[&[Row]] = &[&[("a", &[])], &[("b", &[])], &[("b", &[])], &[("a", &[])]];
-    let with_cycle: &[&[Row]] = &[&[("a", &["b"])], &[("b", &["a"])], &[("a", &[])]];
-    for (rows, name, first, second) in [
-        (twice, "b", 1, 3),
-        (thrice, "a", 0, 2),
-        (two_names, "p", 1, 2),
-        (two_cells, "b", 1, 2),
-        (with_cycle, "a", 0, 2),
-    ] {
-        let cells = cells_of_lines(rt.alloc(), rows)?;
-        assert!(rt; cells.len() < 10);
-        match notebook(rt.alloc(), cells) {
-            Ok(_) => panic!(rt; "accepted"),
-            Err(fault) => assert!(rt; is_doubly(&fault, name, first, second), "{name}"),
-        }
-    }
-    Ok(())
-}
-
-#[test]
-fn refuses_cycles(rt: HostRuntime) -> Result<(), Fail> {
-    let one: &[Row] = &[("a", &["b"]), ("b", &["a"])];
-    let two: &[Row] = &[
-        ("a", &["b"]),
-        ("b", &["a"]),
-        ("c", &["a"]),
-        ("d", &["e"]),
-        ("e", &["d"]),
-    ];
-    let before_and_after: &[Row] = &[("x", &[]), ("a", &["b", "x"]), ("b", &["a"]), ("y", &["b"])];
-    for (rows, wanted) in [
-        (one, [0, 1].as_slice()),
-        (two, &[0, 1, 3, 4]),
-        (before_and_after, &[1, 2]),
-    ] {
-        let cells = cells(rt.alloc(), rows)?;
-        assert!(rt; cells.len() < 10);
-        match notebook(rt.alloc(), cells) {
-            Ok(_) => panic!(rt; "accepted"),
-            Err(fault) => assert!(rt; is_cycle(&fault, wanted)),
-        }
-    }
-    Ok(())
-}
-
-// a cell that reads the name that it binds itself, and binds it twice
-#[test]
-fn accepts_own_name(rt: HostRuntime) -> Result<(), Fail> {
-    let own: &[&[Row]] = &[&[("a", &["a"]), ("a", &["a"])], &[("b", &["a"])]];
-    let cells = cells_of_lines(rt.alloc(), own)?;
-    assert!(rt; cells.len() < 10);
-    match notebook(rt.alloc(), cells) {
-        Ok(nb) => assert_eq!(rt; nb.order(), [0, 1].as_slice()),
-        Err(_) => panic!(rt; "refused"),
-    }
-    Ok(())
-}
-
 // these names
 fn lines(alloc: Global, names: &[&str]) -> Result<Lines, Memory> {
     let mut all = Vec::new(alloc);
     for name in names {
-        all.push(Text::of(String::from_str(alloc, *name)?))?;
+        all.push(Text::copied(alloc, *name)?)?;
     }
     Ok(Lines::of(all))
 }

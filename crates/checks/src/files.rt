@@ -1,11 +1,8 @@
-// Files and sinks in memory, ones that give and take one byte a call, and files of the system.
+// Files and sinks in memory, and ones that give and take one byte a call.
 ghost use Rattle.std.specs.Prelude.{None};
 
-use crate::{
-    Failed, Files, MemFile, MemFiles, MemSink, ReadFault, RealFiles, Sink, read_file, write_all,
-};
+use link_io::{Failed, Files, MemFile, MemFiles, MemSink, ReadFault, Sink, read_file, write_all};
 use std::alloc::{AllocError, Global};
-use std::fs;
 use std::test::Fail;
 
 // One file, of which a call gives one byte, and a sink, of which a call takes one byte.
@@ -83,36 +80,8 @@ fn reads_up_to_one_byte_past_the_limit(rt: HostRuntime) -> Result<(), Fail> {
         let got = read_file(rt.alloc(), &mut files, name, limit)?;
         assert_eq!(rt; got.as_slice(), want, "{name} up to {limit}");
     }
-    Ok(())
-}
 
-#[test]
-fn counts_the_faults_of_files(rt: HostRuntime) -> Result<(), Fail> {
-    let mut files = two_files(rt.alloc(), &[2])?;
-    let unknown = read_file(rt.alloc(), &mut files, "other", 4);
-    assert_eq!(rt; unknown.err(), Some(ReadFault::Failed));
-    let failing = read_file(rt.alloc(), &mut files, "ten", 20);
-    assert_eq!(rt; failing.err(), Some(ReadFault::Failed));
-    assert_eq!(rt; files.faults, 2);
-    Ok(())
-}
-
-#[test]
-fn writes_up_to_the_room(rt: HostRuntime) -> Result<(), Fail> {
-    let mut out = MemSink {
-        bytes: Vec::new(rt.alloc()),
-        room: 8,
-        faults: 0,
-    };
-    assert_eq!(rt; write_all(&mut out, b"hello"), Ok(()));
-    assert_eq!(rt; write_all(&mut out, b"world"), Err(Failed));
-    assert_eq!(rt; out.bytes.as_slice(), b"hellowor".as_slice());
-    assert_eq!(rt; out.faults, 1);
-    Ok(())
-}
-
-#[test]
-fn goes_on_after_one_byte(rt: HostRuntime) -> Result<(), Fail> {
+    // also where a call gives one byte
     let mut slow = Slow {
         bytes: Vec::new(rt.alloc()),
         faults: 0,
@@ -124,22 +93,22 @@ fn goes_on_after_one_byte(rt: HostRuntime) -> Result<(), Fail> {
 }
 
 #[test]
-fn reads_files_of_the_system(rt: HostRuntime) -> Result<(), Fail> {
-    let path = "link_io_test.txt";
-    fs::write(&rt, path, "0123456789")?;
-    let mut files = RealFiles::new(rt);
-    let whole = read_file(rt.alloc(), &mut files, path, 20)?;
-    let part = read_file(rt.alloc(), &mut files, path, 4)?;
-    let mut rest = [0; 4];
-    let count = files.read_at(path, 7, &mut rest);
-    fs::remove_file(&rt, path)?;
-    assert_eq!(rt; whole.as_slice(), b"0123456789".as_slice());
-    assert_eq!(rt; part.as_slice(), b"01234".as_slice());
-    assert_eq!(rt; count, Ok(3));
-    assert_eq!(rt; &rest, b"789\0");
-    let unknown = read_file(rt.alloc(), &mut files, "link_io_test_missing.txt", 4);
+fn counts_faults(rt: HostRuntime) -> Result<(), Fail> {
+    let mut files = two_files(rt.alloc(), &[2])?;
+    let unknown = read_file(rt.alloc(), &mut files, "other", 4);
     assert_eq!(rt; unknown.err(), Some(ReadFault::Failed));
-    let folder = read_file(rt.alloc(), &mut files, ".", 4);
-    assert_eq!(rt; folder.err(), Some(ReadFault::Failed));
+    let failing = read_file(rt.alloc(), &mut files, "ten", 20);
+    assert_eq!(rt; failing.err(), Some(ReadFault::Failed));
+    assert_eq!(rt; files.faults, 2);
+
+    let mut out = MemSink {
+        bytes: Vec::new(rt.alloc()),
+        room: 8,
+        faults: 0,
+    };
+    assert_eq!(rt; write_all(&mut out, b"hello"), Ok(()));
+    assert_eq!(rt; write_all(&mut out, b"world"), Err(Failed));
+    assert_eq!(rt; out.bytes.as_slice(), b"hellowor".as_slice());
+    assert_eq!(rt; out.faults, 1);
     Ok(())
 }

@@ -1,20 +1,19 @@
 // Calls of a kernel over a notebook with a slider. The texts that are wanted are written by hand.
-ghost use Rattle.std.specs.Prelude.{◌≡◌, ◌<◌, IfOk};
+ghost use Rattle.std.specs.Prelude.{◌≡◌, ◌<◌, IfSome};
 ghost use Rattle.visit_meaning.specs.Runnable.{Runnable};
 ghost use Rattle.py_tree.specs.View.{view_cells};
 
-use crate::command_fault::CommandFault;
-use crate::loader::load;
-use cell_graph::Notebook;
+use cell_graph::{Notebook, notebook};
 use frames::CellFrame;
 use kernel::{Delivered, Kernel, Stepped};
+use nb_json::push_frame;
 use py_eval::Steps;
 use py_value::{Memory, Value};
-use script_run::set_line;
 use std::alloc::{AllocError, Global};
 use std::marker::Brand;
 use std::sync::ledger::{Blank, Ledger};
 use std::test::Fail;
+use thin_form::thin;
 
 const BUDGET: u64 = 200_000;
 
@@ -48,10 +47,16 @@ enum Call<'a> {
 
 use Call::{Deliver, Newest, Pending, Present, Step};
 
-fn slider(alloc: Global) -> Result<Notebook, CommandFault>
-    ensures { IfOk result (λ nb. Runnable (view_cells nb)) }
+fn slider(alloc: Global) -> Option<Notebook>
+    ensures { IfSome result (λ nb. Runnable (view_cells nb)) }
 {
-    load(alloc, SLIDER)
+    let Ok(cells) = thin(alloc, SLIDER) else {
+        return None;
+    };
+    match notebook(alloc, cells) {
+        Ok(notebook) => Some(notebook),
+        Err(_) => None,
+    }
 }
 
 // The line of what a delivery came to.
@@ -95,9 +100,8 @@ fn push_step<L: Ledger>(
 ) -> Result<(), Memory> {
     match kernel.step(alloc, steps)? {
         Stepped::Frame(frame) => {
-            let mut line = Vec::new(alloc);
-            set_line(alloc, &mut line, b"", &frame)?;
-            lines.extend_from_slice(line.as_slice())?;
+            push_frame(alloc, lines, &frame)?;
+            lines.push(b'\n')?;
         }
         Stepped::Idle => lines.extend_from_slice(b"idle\n")?,
     }
@@ -179,7 +183,7 @@ const CALLS: &[Call<'static>] = &[
     Step,
     Deliver(b"close"),
     Step,
-    Deliver(b"close"),
+    Deliver(b"{\"open\":{}}\n"),
     Step,
     Step,
     Deliver(OPEN),
@@ -234,7 +238,7 @@ pending 0
 
 #[test]
 fn answers_messages(rt: HostRuntime) -> Result<(), Fail> {
-    let notebook = slider(rt.alloc())?;
+    let notebook = slider(rt.alloc()).ok_or("refused")?;
     let lines = lines_of(rt.alloc(), &notebook, CALLS)?;
     assert_eq!(rt; lines.as_slice(), GIVEN);
     Ok(())
