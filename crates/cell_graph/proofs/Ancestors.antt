@@ -1,13 +1,13 @@
--- Cells that are marked as those above a cell, and chains that lead to it.
+-- Cells that are marked as those above a cell, and paths that lead to it.
 use Rattle.std.proofs.Common.{◌≡◌, ℕ, ◌+◌, ◌<◌, ◌≤◌, Bool, true, false, cond, not, ◌&&◌, ◌||◌, ◌⊎◌, inl, inr, ⊎_elim, List, [], ◌∷◌, ◌++◌, length, get_or, take, filter, refl, sym, ap, ◌∙◌, subst, arith}
 use Rattle.std.proofs.Math.Bool.{or-false}
 use Rattle.std.proofs.lemmas.Bool.{both_ways, cases_Bool, cases_eq, cases_lt, ne_eqb, or_cases, or_left, or_right, and_parts, and_from, not_from_false, false_from_ne_true}
 use Rattle.std.proofs.lemmas.List.{take_more, take_all, get_or_past, length-take-le, append-nil}
 use Rattle.std.proofs.lemmas.List.Elements.{filter-append}
 use Rattle.py_tree.specs.Trees.{Cell}
-use Rattle.graph_meaning.specs.Graph.{edge, numbers_from, is_in, IsChain, LiesOnCycle, AreCyclic}
+use Rattle.graph_meaning.specs.Graph.{edge, numbers_from, is_in, IsPath, LiesOnCycle, AreCyclic}
 use Rattle.graph_meaning.proofs.Orders.{in_more, in_more_cases, to_cell, on_cycle_below}
-use Rattle.graph_meaning.proofs.Reaching.{parent_by, edge_by}
+use Rattle.graph_meaning.proofs.Reachability.{parent_by, edge_by}
 use Rattle.cell_graph.specs.Counts.{list_in}
 use Rattle.cell_graph.specs.Tables.{AreParents}
 use Rattle.cell_graph.specs.Marks.{is_marked}
@@ -23,7 +23,7 @@ marked_below marked c h = ⊎_elim
     (λ past. absurd (both_ways _ (get_or_past marked c false past) h))
     (cases_lt c (length marked))
 
--- ---- chains through the lists
+-- ---- paths through the lists
 
 -- the cells between lead from a to c: each stands in the list of the next
 abbrev pub Leads : List (List ℕ) → ℕ → List ℕ → ℕ → Type 0
@@ -94,7 +94,7 @@ module _ (above : List (List ℕ)) (c : ℕ) (marked : List Bool) (rest : List �
           (cases_Bool (is_marked marked e));
     }
 
--- ---- chains of cells
+-- ---- paths of cells
 
 module _ (nb : List Cell) (above : List (List ℕ)) (kept : AreParents nb above) where
   -- the cells in the lists are those from which edges go
@@ -107,17 +107,17 @@ module _ (nb : List Cell) (above : List (List ℕ)) (kept : AreParents nb above)
   pub in_list : (a b : ℕ) → edge nb a b ≡ true → is_in a (list_in above b) ≡ true
   in_list a b h = let low = to_cell nb a b h in ap (is_in a) (kept_at nb above kept b (omega (arith, kept.count))) ∙ parent_by nb a b h
 
-  chain_from : (a : ℕ) (between : List ℕ) (c : ℕ) → Leads above a between c → IsChain nb (a ∷ between ++ c ∷ [])
-  chain_from a [] c leads = (edge_from a c leads, tt)
-  chain_from a (b ∷ bs) c leads = (edge_from a b leads.0, chain_from b bs c leads.1)
+  path_from : (a : ℕ) (between : List ℕ) (c : ℕ) → Leads above a between c → IsPath nb (a ∷ between ++ c ∷ [])
+  path_from a [] c leads = (edge_from a c leads, tt)
+  path_from a (b ∷ bs) c leads = (edge_from a b leads.0, path_from b bs c leads.1)
 
-  leads_by : (a : ℕ) (between : List ℕ) (c : ℕ) → IsChain nb (a ∷ between ++ c ∷ []) → Leads above a between c
-  leads_by a [] c chain = in_list a c chain.0
-  leads_by a (b ∷ bs) c chain = (in_list a b chain.0, leads_by b bs c chain.1)
+  leads_by : (a : ℕ) (between : List ℕ) (c : ℕ) → IsPath nb (a ∷ between ++ c ∷ []) → Leads above a between c
+  leads_by a [] c path = in_list a c path.0
+  leads_by a (b ∷ bs) c path = (in_list a b path.0, leads_by b bs c path.1)
 
   -- a cell that is marked as above itself lies on a cycle, and the other way round
   pub lies : (c : ℕ) (marked : List Bool) (pending : List ℕ) → IsSearched above c marked pending → is_marked marked c ≡ true → LiesOnCycle nb c
-  lies c marked pending s on = let steps = s.sound c on in (steps.0, chain_from c steps.0 c steps.1)
+  lies c marked pending s on = let steps = s.sound c on in (steps.0, path_from c steps.0 c steps.1)
 
   pub lies_not : (c : ℕ) (marked : List Bool) → IsSearched above c marked [] → is_marked marked c ≡ false → LiesOnCycle nb c → ⊥
   lies_not c marked s off cycle = both_ways _ off (complete above c marked s cycle.0 c (leads_by c cycle.0 c cycle.1))

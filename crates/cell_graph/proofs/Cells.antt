@@ -10,7 +10,7 @@ use Rattle.py_tree.specs.Scope.{defs}
 use Rattle.py_tree.specs.Trees.{Cell}
 use Rattle.graph_meaning.specs.Graph.{defs_of, refs_of, numbers_from, all_cells, parents, order, defined_before, IsDoubled, NoneDoubled, AreCyclic}
 use Rattle.graph_meaning.proofs.Orders.{is_cell_number, short_is_cyclic}
-use Rattle.graph_meaning.proofs.Reaching.{any_from}
+use Rattle.graph_meaning.proofs.Reachability.{any_from}
 use Rattle.cell_graph.specs.Definers.{names_in, FindsLists, lists_with}
 use Rattle.cell_graph.specs.Tables.{AreDefs, AreRefs, AreParents}
 use Rattle.cell_graph.proofs.LookUps.{in_earlier, in_next, within, names_kept, is_itself}

@@ -30,11 +30,6 @@ not_counted c (d ∷ ds) none =
 
 -- ---- children
 
--- two parts of a count that is kept where a test passes
-pub parts_of : (b : Bool) (n m k : ℕ) → (n + cond b m 0) + cond b k 0 ≡ n + cond b (m + k) 0
-parts_of true n m k = omega arith
-parts_of false n m k = omega arith
-
 pub past_all : (lists : List (List ℕ)) (d : ℕ) → length lists ≤ d → list_in lists d ≡ []
 past_all [] d h = refl
 past_all (l ∷ ls) zero h = absurd (omega arith)

@@ -1,11 +1,10 @@
 -- Names in lists of references, and names that were seen before.
-use Rattle.std.proofs.Common.{◌≡◌, Bool, true, false, cond, ◌||◌, List, [], ◌∷◌, ◌++◌, filter, Bor, refl, sym, ap, ◌∙◌, subst, append_assoc, if◌then◌else◌}
+use Rattle.std.proofs.Common.{◌≡◌, Bool, true, false, cond, ◌||◌, List, [], ◌∷◌, ◌++◌, filter, Bor, refl, sym, ap, ◌∙◌, append_assoc, if◌then◌else◌}
 use Rattle.std.specs.List.{list_any}
 use Rattle.std.specs.Str.{bytes_eq}
 use Rattle.std.specs.Cmp.Lexicographic.{nat_list_eq_equiv}
 use Rattle.std.proofs.lemmas.List.Folds.{list_any-append}
-use Rattle.std.proofs.lemmas.Slice.Eq.{bytes_eq-Decides}
-use Rattle.py_tree.specs.Names.{Name, is_among, first_seen, first_seen_after}
+use Rattle.py_tree.specs.Names.{Name, is_among, first_seen_after}
 use Rattle.cell_graph.specs.Texts.{texts}
 
 pub same_either_way : (x y : Name) → bytes_eq x y ≡ bytes_eq y x

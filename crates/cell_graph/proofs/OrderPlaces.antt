@@ -9,8 +9,8 @@ use Rattle.py_value.specs.Maps.{Map}
 use Rattle.graph_meaning.specs.Graph.{numbers_from, edge, is_in, places, next_cell, with_next, order, NoneCyclic}
 use Rattle.graph_meaning.specs.Reruns.{reads_one, is_within}
 use Rattle.graph_meaning.proofs.Orders.{places_below, places_distinct, step_back, free_is_listed, to_cell}
-use Rattle.graph_meaning.proofs.Reaching.{near_reader, near_next, near_from}
-use Rattle.cell_graph.specs.Counts.{list_in, AreTurned}
+use Rattle.graph_meaning.proofs.Reachability.{near_reader, near_next, near_from}
+use Rattle.cell_graph.specs.Counts.{list_in, IsTranspose}
 use Rattle.cell_graph.specs.Tables.{AreRefs, AreParents}
 use Rattle.cell_graph.specs.Places.{is_placed, ArePlaced}
 use Rattle.cell_graph.specs.Readers.{cells_at, HasReaders}
@@ -24,7 +24,7 @@ use Rattle.cell_graph.proofs.Counts.{all_from_in, none_counted, not_counted}
 -- ---- children
 
 -- a is in the list of c where c is in that of a, turned round
-module _ (above below : List (List ℕ)) (turned : AreTurned above below) where
+module _ (above below : List (List ℕ)) (turned : IsTranspose above below) where
   in_turned : (a c : ℕ) → is_in a (list_in above c) ≡ true → is_in c (list_in below a) ≡ true
   in_turned a c h = ⊎_elim
       (λ on. on)
@@ -120,7 +120,7 @@ module _ (nb : List Cell) (full : length (order nb) ≡ length nb) where
         let own : get_or table a 0 ≡ i.0 = ap (λ (d : ℕ). get_or table d 0) (sym at) ∙ each i.0 (omega (arith, i.1)) in
         omega (arith, i.1)
 
-    pub placed : (above below : List (List ℕ)) → AreParents nb above → AreTurned above below → ArePlaced (order nb) table below
+    pub placed : (above below : List (List ℕ)) → AreParents nb above → IsTranspose above below → ArePlaced (order nb) table below
     placed above below kept turned = record {
       count = count;
       lists = turned.count ∙ kept.count ∙ sym full;

@@ -10,7 +10,7 @@ use Rattle.std.proofs.lemmas.List.Sums.{sum_by-cons, count_by_more_yes, sum_by-t
 use Rattle.py_tree.specs.Trees.{Cell}
 use Rattle.graph_meaning.specs.Graph.{numbers_from, all_cells, is_in, edge, is_ready, next_cell, with_next, places}
 use Rattle.graph_meaning.proofs.Orders.{cell_number_below}
-use Rattle.cell_graph.specs.Counts.{list_in, count_of, AreWithin, AreTurned}
+use Rattle.cell_graph.specs.Counts.{list_in, count_of, AreWithin, IsTranspose}
 use Rattle.cell_graph.specs.Tables.{AreParents}
 use Rattle.cell_graph.proofs.Numbers.{numbers_alike, find_within, Popped, popped, none_popped}
 use Rattle.cell_graph.proofs.Names.{filter_alike}
@@ -122,7 +122,7 @@ module _ (above : List (List ℕ)) (listed waits ready : List ℕ) (s : IsSwept 
   waits_none : get_or waits c 0 ≡ 0
   waits_none = eqb-true _ 0 (and_parts (not (is_in c listed)) (get_or waits c 0 == 0) first.passes).1
 
-  module _ (below : List (List ℕ)) (turned : AreTurned above below) where
+  module _ (below : List (List ℕ)) (turned : IsTranspose above below) where
     -- a child waits for the cell, at least
     pub child_held : (d : ℕ) → count_of d (list_in below c) ≤ get_or waits d 0
     child_held d =

@@ -8,7 +8,7 @@ use Rattle.std.proofs.lemmas.List.Elements.{filter_more}
 use Rattle.std.proofs.lemmas.List.Folds.{list_any-append}
 use Rattle.std.proofs.lemmas.List.Filters.{length-filter_both}
 use Rattle.graph_meaning.specs.Graph.{numbers_from, is_in}
-use Rattle.graph_meaning.proofs.Reaching.{any_from, some_in, passes, is_kept}
+use Rattle.graph_meaning.proofs.Reachability.{any_from, some_in, passes, is_kept}
 use Rattle.cell_graph.specs.Counts.{list_in}
 use Rattle.cell_graph.specs.Places.{is_placed, ArePlaced}
 use Rattle.cell_graph.proofs.Numbers.{numbers_alike, filter_within, Popped, popped}
@@ -213,10 +213,6 @@ module _ (ordered places : List ℕ) (below : List (List ℕ)) (placed : ArePlac
 
     none_earlier : (q : ℕ) → q < c → is_waiting ordered below p listed s.from q ≡ false
     none_earlier q h = none_before waiting 0 ordered c first.found q (omega arith) h
-
-    -- a cell stands there
-    pub cell_there : get_or ordered c 0 < length ordered
-    cell_there = placed.inside c high
 
     pub few : length listed < length ordered
     few =

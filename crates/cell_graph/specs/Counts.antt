@@ -14,7 +14,7 @@ count_of c cells = count_by (λ d. d == c) cells
 abbrev pub AreWithin : List (List ℕ) → Type 0
 AreWithin lists = All (All (λ c. c < length lists)) lists
 
--- The lists turned round: d is as often in the list of a as a is in that of d.
-pub record AreTurned (lists turned : List (List ℕ)) : Type 0 where
-  pub count : length turned ≡ length lists
-  pub each : (a d : ℕ) → count_of d (list_in turned a) ≡ count_of a (list_in lists d)
+-- The transpose of the lists: d is as often in its list of a as a is in their list of d.
+pub record IsTranspose (lists transpose : List (List ℕ)) : Type 0 where
+  pub count : length transpose ≡ length lists
+  pub each : (a d : ℕ) → count_of d (list_in transpose a) ≡ count_of a (list_in lists d)

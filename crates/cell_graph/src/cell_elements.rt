@@ -3,7 +3,7 @@ ghost use Rattle.std.specs.Prelude.{◌≡◌, IfOk, option_map, option_to_list}
 ghost use Rattle.py_tree.specs.Elements as created;
 ghost use Rattle.py_tree.specs.View.{view_cell, view_head};
 
-use py_tree::{CellCode, Expr, Line, Spelling, ui_kind};
+use py_tree::{CellCode, Expr, Line, ui_kind};
 use py_value::{Lines, Memory, Text};
 use std::alloc::Global;
 

@@ -1,7 +1,7 @@
 // The children of cells, found from their parents.
 ghost use Rattle.std.specs.Prelude.{◌≡◌, ℕ, ◌+◌, ◌^◌, ◌<◌, ◌==◌, [], IfOk, OnOk, length, if◌then◌else◌, replicate};
 ghost use Rattle.std.specs.List.{All};
-ghost use Rattle.cell_graph.specs.Counts.{list_in, count_of, AreWithin, AreTurned};
+ghost use Rattle.cell_graph.specs.Counts.{list_in, count_of, AreWithin, IsTranspose};
 
 use crate::cell_list::CellList;
 use py_value::Memory;
@@ -11,7 +11,7 @@ use std::alloc::Global;
 pub(crate) fn all_children(alloc: Global, parents: &[CellList]) -> Result<Vec<CellList>, Memory>
     requires few { length parents.now < 2 ^ 32 }
     requires within { AreWithin parents.now }
-    ensures { IfOk result (λ children. AreTurned parents.now children.items) }
+    ensures { IfOk result (λ children. IsTranspose parents.now children.items) }
 {
     let mut children = empty_lists(alloc, parents.len())?;
     for cell in 0..parents.len() {

@@ -33,7 +33,7 @@ impl Model for Notebook {
     ghost use Rattle.py_tree.specs.contracts.tree.Block as block;
     ghost use Rattle.py_tree.specs.declared.tree.CellCode.{CellCode};
     ghost use Rattle.py_tree.specs.View.{view_cells};
-    ghost use Rattle.cell_graph.specs.Counts.{AreTurned};
+    ghost use Rattle.cell_graph.specs.Counts.{IsTranspose};
     ghost use Rattle.cell_graph.specs.Places.{ArePlaced};
     ghost use Rattle.cell_graph.specs.Readers.{HasReaders};
     ghost use Rattle.cell_graph.specs.Tables.{AreDefs, AreRefs, AreElements, AreParents};
@@ -50,7 +50,7 @@ impl Model for Notebook {
         × AreElements (view_cells nb.cells.items) nb.elements.items
         × AreParents (view_cells nb.cells.items) nb.parents.items × (nb.order.items ≡ graph.order (view_cells nb.cells.items))
         × graph.NoneDoubled (view_cells nb.cells.items) × graph.NoneCyclic (view_cells nb.cells.items)
-        × AreTurned nb.parents.items nb.children.items × ArePlaced nb.order.items nb.places.items nb.children.items
+        × IsTranspose nb.parents.items nb.children.items × ArePlaced nb.order.items nb.places.items nb.children.items
         × HasReaders nb.refs.items nb.readers };
 }
 

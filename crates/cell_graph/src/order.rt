@@ -1,6 +1,6 @@
 // The order in which cells run.
 ghost use Rattle.std.specs.Prelude.{◌≡◌, ◌^◌, ◌<◌, List, IfOk, length};
-ghost use Rattle.cell_graph.specs.Counts.{AreWithin, AreTurned};
+ghost use Rattle.cell_graph.specs.Counts.{AreWithin, IsTranspose};
 ghost use Rattle.cell_graph.specs.Tables.{AreParents};
 ghost use Rattle.graph_meaning.specs.Graph.{order};
 ghost use Rattle.py_tree.specs.Trees.{Cell};
@@ -18,7 +18,7 @@ pub(crate) fn order_of(
 ) -> Result<Vec<u32>, Memory>
     requires few { length parents.now < 2 ^ 32 }
     requires within { AreWithin parents.now }
-    requires turned { AreTurned parents.now children.now }
+    requires turned { IsTranspose parents.now children.now }
     ensures { IfOk result
         (λ listed. (nb : List Cell) → AreParents nb parents.now → listed.items ≡ order nb) }
 {

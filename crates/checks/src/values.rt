@@ -185,7 +185,7 @@ fn put_all(alloc: Global, rows: &[(Sample, Sample)]) -> Result<Value, OpFault> {
 }
 
 #[test]
-fn keys_are_those_of_python(rt: HostRuntime) -> Result<(), Fail> {
+fn puts_and_finds_keys(rt: HostRuntime) -> Result<(), Fail> {
     let table = [
         (Sample::None, Sample::None, Ok(true)),
         (Sample::One, Sample::True, Ok(true)),
@@ -220,7 +220,7 @@ fn keys_are_those_of_python(rt: HostRuntime) -> Result<(), Fail> {
         );
     }
 
-    // a key that is put again keeps its place and its spelling
+    // a key that is put again keeps its place and its spelling, as Python writes it
     let rows = [
         (Sample::One, Sample::TextA),
         (Sample::None, Sample::NoList),

@@ -1,4 +1,4 @@
-// Laws and worked examples, proved from the definitions.
+// Worked examples, proved from the definitions.
 ghost use Rattle.std.specs.Prelude.{[], ◌∷◌, ◌++◌, codes};
 ghost use Rattle.form_meaning.specs.Fails.{FailsAt};
 ghost use Rattle.form_meaning.specs.Thin.{file_lines};

@@ -1,4 +1,4 @@
 -- for `order_and_cycles`: the order is full just where no cell lies on a cycle
 pub mod Orders
--- for `what_runs_again`: chains lead to just the cells that run again
-pub mod Reaching
+-- for `what_runs_again`: paths lead to just the cells that run again
+pub mod Reachability

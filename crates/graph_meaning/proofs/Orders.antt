@@ -11,7 +11,7 @@ use Rattle.std.proofs.lemmas.Option.{slice_get_past}
 use Rattle.py_tree.specs.Names.{Name, is_among}
 use Rattle.py_tree.specs.Scope.{defs, refs}
 use Rattle.py_tree.specs.Trees.{Cell}
-use Rattle.graph_meaning.specs.Graph.{names_at, defs_of, refs_of, edge, numbers_from, all_cells, is_in, IsChain, LiesOnCycle, is_ready, next_cell, with_next, places, order, NoneCyclic}
+use Rattle.graph_meaning.specs.Graph.{names_at, defs_of, refs_of, edge, numbers_from, all_cells, is_in, IsPath, LiesOnCycle, is_ready, next_cell, with_next, places, order, NoneCyclic}
 
 -- ---- numbers in lists
 
@@ -120,13 +120,13 @@ to_cell nb a b h = ⊎_elim
     absurd (both_ways _ bad h))
     (cases_lt b (length nb))
 
-chain_below : (nb : List Cell) (a : ℕ) (between : List ℕ) (c : ℕ) → IsChain nb (a ∷ between ++ c ∷ []) → a < length nb
-chain_below nb a [] c chain = from_cell nb a c chain.0
-chain_below nb a (b ∷ bs) c chain = from_cell nb a b chain.0
+path_below : (nb : List Cell) (a : ℕ) (between : List ℕ) (c : ℕ) → IsPath nb (a ∷ between ++ c ∷ []) → a < length nb
+path_below nb a [] c path = from_cell nb a c path.0
+path_below nb a (b ∷ bs) c path = from_cell nb a b path.0
 
 -- what lies on a cycle is a cell
 pub on_cycle_below : (nb : List Cell) (c : ℕ) → LiesOnCycle nb c → c < length nb
-on_cycle_below nb c cycle = chain_below nb c cycle.0 c cycle.1
+on_cycle_below nb c cycle = path_below nb c cycle.0 c cycle.1
 
 pub is_cell_number : (nb : List Cell) (c : ℕ) → c < length nb → is_in c (all_cells nb) ≡ true
 is_cell_number nb c h = numbered 0 nb c (omega arith) (omega arith)
@@ -208,15 +208,15 @@ step_back nb (suc k) a b e h = ⊎_elim
     (λ ready. parent_listed nb (places nb (suc k)) a b ready.0 e)
     (listed_next nb (suc k) b h)
 
--- a chain that ends in the first k + 1 places begins in the first k
-chain_back : (nb : List Cell) (k a : ℕ) (between : List ℕ) (c : ℕ) → IsChain nb (a ∷ between ++ c ∷ [])
+-- a path that ends in the first k + 1 places begins in the first k
+path_back : (nb : List Cell) (k a : ℕ) (between : List ℕ) (c : ℕ) → IsPath nb (a ∷ between ++ c ∷ [])
     → is_in c (places nb (suc k)) ≡ true → is_in a (places nb k) ≡ true
-chain_back nb k a [] c chain h = step_back nb k a c chain.0 h
-chain_back nb k a (b ∷ bs) c chain h = step_back nb k a b chain.0 (kept_next nb k b (chain_back nb k b bs c chain.1 h))
+path_back nb k a [] c path h = step_back nb k a c path.0 h
+path_back nb k a (b ∷ bs) c path h = step_back nb k a b path.0 (kept_next nb k b (path_back nb k b bs c path.1 h))
 
 pub not_on_cycle : (nb : List Cell) (k c : ℕ) → is_in c (places nb k) ≡ true → LiesOnCycle nb c → ⊥
 not_on_cycle nb zero c h cycle = both_ways false refl h
-not_on_cycle nb (suc k) c h cycle = not_on_cycle nb k c (chain_back nb k c cycle.0 c cycle.1 h) cycle
+not_on_cycle nb (suc k) c h cycle = not_on_cycle nb k c (path_back nb k c cycle.0 c cycle.1 h) cycle
 
 -- where the order is full, each cell stands in it
 pub all_listed : (nb : List Cell) (c : ℕ) → length (order nb) ≡ length nb → c < length nb → is_in c (order nb) ≡ true
@@ -255,13 +255,13 @@ full_or_stuck nb (suc k) = ⊎_elim
     (λ stuck. inr (still_stuck nb (places nb k) (next_cell nb (places nb k)) stuck refl))
     (full_or_stuck nb k)
 
--- a chain that leads to a cell leads to each cell in it
-chain_to : (nb : List Cell) (a : ℕ) (cs : List ℕ) (c : ℕ) → IsChain nb (a ∷ cs) → is_in c cs ≡ true
-    → (between : List ℕ) × IsChain nb (a ∷ between ++ c ∷ [])
-chain_to nb a [] c chain h = absurd (both_ways false refl h)
-chain_to nb a (d ∷ ds) c chain h = ⊎_elim
-    (λ same. ([], (subst (λ (n : ℕ). edge nb a n ≡ true) (eqb-true d c same) chain.0, tt)))
-    (λ later. let rest = chain_to nb d ds c chain.1 later in (d ∷ rest.0, (chain.0, rest.1)))
+-- a path that leads to a cell leads to each cell in it
+path_to : (nb : List Cell) (a : ℕ) (cs : List ℕ) (c : ℕ) → IsPath nb (a ∷ cs) → is_in c cs ≡ true
+    → (between : List ℕ) × IsPath nb (a ∷ between ++ c ∷ [])
+path_to nb a [] c path h = absurd (both_ways false refl h)
+path_to nb a (d ∷ ds) c path h = ⊎_elim
+    (λ same. ([], (subst (λ (n : ℕ). edge nb a n ≡ true) (eqb-true d c same) path.0, tt)))
+    (λ later. let rest = path_to nb d ds c path.1 later in (d ∷ rest.0, (path.0, rest.1)))
     (or_cases (d == c) _ h)
 
 -- so many cells, each of them once, joined by edges; the first one isn't listed
@@ -269,7 +269,7 @@ pub record Walk (nb : List Cell) (listed : List ℕ) (steps : ℕ) : Type 0 wher
   pub first : ℕ
   pub rest : List ℕ
   pub long : length rest ≡ steps
-  pub chain : IsChain nb (first ∷ rest)
+  pub path : IsPath nb (first ∷ rest)
   pub once : IsDistinct eqb (first ∷ rest)
   pub below : (q : ℕ) → is_in q (first ∷ rest) ≡ true → q < length nb
   pub unlisted : is_in first listed ≡ false
@@ -284,7 +284,7 @@ lone_cell nb listed c below absent = record {
   first = c;
   rest = [];
   long = refl;
-  chain = tt;
+  path = tt;
   once = (tt, tt);
   below = λ q h. ⊎_elim (λ same. subst (λ (n : ℕ). n < length nb) (eqb-true c q same) below) (λ no. absurd (both_ways false refl no)) (or_cases (c == q) false h);
   unlisted = absent;
@@ -298,7 +298,7 @@ longer nb listed steps p w e absent new = record {
   first = p;
   rest = w.first ∷ w.rest;
   long = ap suc w.long;
-  chain = (e, w.chain);
+  path = (e, w.path);
   once = (apart_from p (w.first ∷ w.rest) new, w.once);
   below = λ q h. ⊎_elim (λ same. subst (λ (n : ℕ). n < length nb) (eqb-true p q same) (from_cell nb p w.first e)) (w.below q) (or_cases (p == q) _ h);
   unlisted = absent;
@@ -315,7 +315,7 @@ walk nb listed c stuck free below absent (suc steps) =
     let parent = parent_unlisted nb listed w.first unready w.unlisted in
     ⊎_elim
     (λ met.
-    absurd (free parent.at (chain_to nb parent.at (w.first ∷ w.rest) parent.at (parent.kept, w.chain) met)))
+    absurd (free parent.at (path_to nb parent.at (w.first ∷ w.rest) parent.at (parent.kept, w.path) met)))
     (λ new. longer nb listed steps parent.at w parent.kept parent.fails new)
     (cases_Bool (is_in parent.at (w.first ∷ w.rest)))
 

@@ -42,15 +42,15 @@ is_in c cs = list_any (λ d. d == c) cs
 abbrev pub parents : List Cell → ℕ → List ℕ
 parents nb c = filter (λ a. edge nb a c) (all_cells nb)
 
--- one cell or more, each joined to the next by an edge
-abbrev pub IsChain : List Cell → List ℕ → Type 0
-IsChain nb [] = ⊥
-IsChain nb (a ∷ []) = Unit {0}
-IsChain nb (a ∷ b ∷ cs) = IsTrue (edge nb a b) × IsChain nb (b ∷ cs)
+-- a path: one cell or more, each joined to the next by an edge
+abbrev pub IsPath : List Cell → List ℕ → Type 0
+IsPath nb [] = ⊥
+IsPath nb (a ∷ []) = Unit {0}
+IsPath nb (a ∷ b ∷ cs) = IsTrue (edge nb a b) × IsPath nb (b ∷ cs)
 
 -- edges lead from the cell, over the cells between, back to it
 abbrev pub LiesOnCycle : List Cell → ℕ → Type 0
-LiesOnCycle nb c = (between : List ℕ) × IsChain nb (c ∷ between ++ c ∷ [])
+LiesOnCycle nb c = (between : List ℕ) × IsPath nb (c ∷ between ++ c ∷ [])
 
 -- the cell isn't listed, and all its parents are
 abbrev pub is_ready : List Cell → List ℕ → ℕ → Bool

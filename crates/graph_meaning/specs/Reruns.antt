@@ -3,7 +3,7 @@ use Rattle.std.specs.Prelude.{ℕ, zero, suc, Bool, ◌||◌, IsTrue, List, [], 
 use Rattle.std.specs.List.{list_any}
 use Rattle.py_tree.specs.Names.{Name, is_among}
 use Rattle.py_tree.specs.Trees.{Cell}
-use Rattle.graph_meaning.specs.Graph.{refs_of, parents, order, IsChain}
+use Rattle.graph_meaning.specs.Graph.{refs_of, parents, order, IsPath}
 
 -- the cell references one of the names
 abbrev pub reads_one : List Cell → List Name → ℕ → Bool
@@ -18,7 +18,7 @@ is_within nb names (suc k) c = reads_one nb names c || list_any (is_within nb na
 abbrev pub rerun : List Cell → List Name → List ℕ
 rerun nb names = filter (is_within nb names (length nb)) (order nb)
 
--- a chain leads to the cell from one that references one of the names
+-- a path leads to the cell from one that references one of the names
 pub data IsReached (nb : List Cell) (names : List Name) (c : ℕ) : Type 0 where
   itself : IsTrue (reads_one nb names c) → IsReached nb names c
-  behind : (first : ℕ) (between : List ℕ) → IsTrue (reads_one nb names first) → IsChain nb (first ∷ between ++ c ∷ []) → IsReached nb names c
+  behind : (first : ℕ) (between : List ℕ) → IsTrue (reads_one nb names first) → IsPath nb (first ∷ between ++ c ∷ []) → IsReached nb names c

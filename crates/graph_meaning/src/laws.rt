@@ -15,7 +15,7 @@ pub fn order_and_cycles()
     ensures none { (nb : List Cell) (c : ℕ) → is_in c (order nb) ≡ true → LiesOnCycle nb c → ⊥ }
 {}
 
-/// In a notebook without a cycle the cells that run again are those to which a chain leads from a cell that references one of the names;
+/// In a notebook without a cycle the cells that run again are those to which a path leads from a cell that references one of the names;
 /// each of them runs once.
 pub fn what_runs_again()
     ensures reached { (nb : List Cell) (names : List Name) → NoneCyclic nb → (c : ℕ) → c < length nb

@@ -1,5 +1,4 @@
 -- Names, bindings and clauses, whatever the kernel does with them.
-pub mod Booleans
 pub mod PlainNames
 pub mod WithoutNames
 pub mod DroppedNames

@@ -16,7 +16,7 @@ use Rattle.py_value.specs.declared.types.Value.{Value}
 use Rattle.py_value.specs.declared.types.Value.TheVariants as V
 use Rattle.py_value.proofs.Levels.{value_of-data_of}
 use Rattle.py_value.proofs.SortedMaps.{look_up-where_off, look_up-where_on, same_maps, sorted_where_name}
-use Rattle.visit_meaning.specs.Answer.{On, Set, Part, Answered, at_no_cost, results_of, counted, element_in, value_set, with_value, next, answer}
+use Rattle.visit_meaning.specs.Answer.{On, Set, Part, Answered, at_no_cost, results_of, counted, element_in, value_set, with_value, present_after, answer}
 use Rattle.graph_meaning.specs.Graph.{elements_of, order}
 use Rattle.run_meaning.specs.Meaning.{Env}
 use Rattle.graph_meaning.specs.Reruns.{is_within, rerun}
@@ -97,7 +97,7 @@ module _ (s : KernelState) (kept : IsKept s) (free : s.pending ≡ pending.Nothi
   -- the value is set to these data
   module _ (value : Value) (set : value_set s.env (x, sent) ≡ Some (data_of value)) where
     abbrev later : Map Value
-    later = next nb s.env s.present sets
+    later = present_after nb s.env s.present sets
 
     fit : answer nb s.budget (state_of s.on s.present) (Set sets) ≡ record { state = On later; parts = counted (results_of nb s.budget later cells) }
     fit =

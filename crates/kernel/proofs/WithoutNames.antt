@@ -1,12 +1,12 @@
 -- Bindings without some names.
-use Rattle.std.proofs.Common.{◌≡◌, ◌∙◌, refl, sym, ap, ℕ, suc, ◌+◌, ◌≤◌, ◌<◌, Bool, true, false, cond, not, ◌&&◌, List, [], ◌∷◌, length, drop, get_or, drop-cons, add-one, arith}
+use Rattle.std.proofs.Common.{◌≡◌, ◌∙◌, refl, sym, ap, ℕ, suc, ◌+◌, ◌≤◌, ◌<◌, Bool, true, false, cond, not, ◌&&◌, ◌||◌, List, [], ◌∷◌, length, drop, get_or, drop-cons, add-one, arith}
+use Rattle.std.proofs.Math.Bool.{and_comm, and_self}
 use Rattle.std.specs.Bool.{one_answer}
 use Rattle.std.proofs.lemmas.List.{drop_all}
 use Rattle.std.specs.Str.{bytes_eq}
 use Rattle.std.proofs.lemmas.Slice.Eq.{bytes_eq-Decides}
 use Rattle.py_tree.specs.Names.{is_among}
 use Rattle.py_value.specs.Maps.{Map, where_name}
-use Rattle.kernel.proofs.Booleans.{and_swap, and_itself, neither}
 
 -- one choice after another
 pub where_name_twice : {V : Type 0} (p q : List ℕ → Bool) (m : Map V) → where_name p (where_name q m) ≡ where_name (λ x. q x && p x) m
@@ -22,11 +22,11 @@ where_name_same p q h (e ∷ es) = λ i. cond (h e.0 i) (e ∷ where_name_same p
 
 -- the order of two choices doesn't count
 pub where_name_swap : {V : Type 0} (p q : List ℕ → Bool) (m : Map V) → where_name p (where_name q m) ≡ where_name q (where_name p m)
-where_name_swap p q m = where_name_twice p q m ∙ where_name_same _ _ (λ x. and_swap (q x) (p x)) m ∙ sym (where_name_twice q p m)
+where_name_swap p q m = where_name_twice p q m ∙ where_name_same _ _ (λ x. and_comm (q x) (p x)) m ∙ sym (where_name_twice q p m)
 
 -- a choice made again changes nothing
 pub where_name_again : {V : Type 0} (p : List ℕ → Bool) (m : Map V) → where_name p (where_name p m) ≡ where_name p m
-where_name_again p m = where_name_twice p p m ∙ where_name_same _ _ (λ x. and_itself (p x)) m
+where_name_again p m = where_name_twice p p m ∙ where_name_same _ _ (λ x. and_self (p x)) m
 
 pub where_name_short : {V : Type 0} (p : List ℕ → Bool) (m : Map V) → length (where_name p m) ≤ length m
 where_name_short p [] = omega arith
@@ -61,6 +61,10 @@ where_name_true (e ∷ es) = ap (λ r. e ∷ r) (where_name_true es)
 
 bytes_swap : (x y : List ℕ) → bytes_eq x y ≡ bytes_eq y x
 bytes_swap x y = let d = bytes_eq-Decides y x in one_answer (bytes_eq x y) (bytes_eq y x) (bytes_eq-Decides x y) ((λ h. sym (d.0 h)), (λ e. d.1 (sym e)))
+
+neither : (a b : Bool) → (not a && not b) ≡ not (a || b)
+neither true b = refl
+neither false b = refl
 
 -- a name is taken out, and then the names after it
 pub without_more : {V : Type 0} (names : List (List ℕ)) (i : ℕ) (name : List ℕ) (env : Map V) → i < length names → name ≡ get_or names i name → where_name (λ x. not (is_among x (drop (i + 1) names))) (where_name (λ x. not (bytes_eq x name)) env) ≡ where_name (λ x. not (is_among x (drop i names))) env

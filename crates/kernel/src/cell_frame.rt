@@ -10,55 +10,6 @@ use py_eval::{End, Ran};
 use py_value::{ErrorKind, Lines, Memory, Text, Value, write_str};
 use std::alloc::Global;
 
-// The `str` of a value.
-fn text_of(alloc: Global, value: &Value) -> Result<Text, Memory>
-    ensures { IfOk result (λ text. text ≡ str_of (data_of value.now)) }
-{
-    let mut text = Text::new(alloc);
-    write_str(alloc, value, &mut text)?;
-    Ok(text)
-}
-
-// What a value shows as the output of a cell; nothing where it is None.
-fn shown(alloc: Global, value: &Value) -> Result<Option<Output>, Memory>
-    ensures { IfOk result (λ output. output ≡ whole.shown value.now) }
-{
-    let (text, kind) = match value {
-        Value::None => return Ok(None),
-        Value::Int(number) => (Text::of(number.to_string(alloc)?), OutputKind::Plain),
-        Value::Element(element) => (ui_elements::shown(alloc, element)?, OutputKind::Element),
-        Value::Html(html) => (html.copy(alloc)?, OutputKind::Html),
-        _ => (text_of(alloc, value)?, OutputKind::Plain),
-    };
-    Ok(Some(Output { text, kind }))
-}
-
-// The output of a cell whose last line has this value.
-fn output_of(alloc: Global, last: Option<Value>) -> Result<Option<Output>, Memory>
-    ensures { IfOk result (λ output. output ≡ option_and_then whole.shown last) }
-{
-    match last {
-        Some(value) => shown(alloc, &value),
-        None => Ok(None),
-    }
-}
-
-// The error of a cell whose run ended so.
-fn error_of(end: End) -> Option<CellError>
-    ensures { result ≡ error_after end }
-{
-    match end {
-        End::Done => None,
-        End::Fault { kind, line } => Some(CellError { kind, line }),
-        End::Spent { line } => {
-            Some(CellError {
-                kind: ErrorKind::Spent,
-                line,
-            })
-        }
-    }
-}
-
 /// The frame of a cell that ran.
 pub fn ran_frame(alloc: Global, cell: u32, ran: Ran) -> Result<CellFrame, Memory>
     ensures { IfOk result (λ frame. frame ≡ frame_after cell ran) }
@@ -89,6 +40,68 @@ pub fn cancelled_frame(alloc: Global, cell: u32) -> CellFrame
     }
 }
 
+/// The same result once more.
+pub fn copy_frame(alloc: Global, frame: &CellFrame) -> Result<CellFrame, Memory>
+    ensures { IfOk result (λ copied. copied ≡ frame.now) }
+{
+    Ok(CellFrame {
+        cell: frame.cell,
+        status: frame.status,
+        output: copy_output(alloc, &frame.output)?,
+        console: frame.console.copy(alloc)?,
+        error: frame.error,
+    })
+}
+
+// The output of a cell whose last line has this value.
+fn output_of(alloc: Global, last: Option<Value>) -> Result<Option<Output>, Memory>
+    ensures { IfOk result (λ output. output ≡ option_and_then whole.shown last) }
+{
+    match last {
+        Some(value) => shown(alloc, &value),
+        None => Ok(None),
+    }
+}
+
+// What a value shows as the output of a cell; nothing where it is None.
+fn shown(alloc: Global, value: &Value) -> Result<Option<Output>, Memory>
+    ensures { IfOk result (λ output. output ≡ whole.shown value.now) }
+{
+    let (text, kind) = match value {
+        Value::None => return Ok(None),
+        Value::Int(number) => (Text::of(number.to_string(alloc)?), OutputKind::Plain),
+        Value::Element(element) => (ui_elements::shown(alloc, element)?, OutputKind::Element),
+        Value::Html(html) => (html.copy(alloc)?, OutputKind::Html),
+        _ => (text_of(alloc, value)?, OutputKind::Plain),
+    };
+    Ok(Some(Output { text, kind }))
+}
+
+// The `str` of a value.
+fn text_of(alloc: Global, value: &Value) -> Result<Text, Memory>
+    ensures { IfOk result (λ text. text ≡ str_of (data_of value.now)) }
+{
+    let mut text = Text::new(alloc);
+    write_str(alloc, value, &mut text)?;
+    Ok(text)
+}
+
+// The error of a cell whose run ended so.
+fn error_of(end: End) -> Option<CellError>
+    ensures { result ≡ error_after end }
+{
+    match end {
+        End::Done => None,
+        End::Fault { kind, line } => Some(CellError { kind, line }),
+        End::Spent { line } => {
+            Some(CellError {
+                kind: ErrorKind::Spent,
+                line,
+            })
+        }
+    }
+}
+
 fn copy_output(alloc: Global, output: &Option<Output>) -> Result<Option<Output>, Memory>
     ensures { IfOk result (λ copied. copied ≡ output.now) }
 {
@@ -101,17 +114,4 @@ fn copy_output(alloc: Global, output: &Option<Output>) -> Result<Option<Output>,
         }
         None => Ok(None),
     }
-}
-
-/// The same result once more.
-pub fn copy_frame(alloc: Global, frame: &CellFrame) -> Result<CellFrame, Memory>
-    ensures { IfOk result (λ copied. copied ≡ frame.now) }
-{
-    Ok(CellFrame {
-        cell: frame.cell,
-        status: frame.status,
-        output: copy_output(alloc, &frame.output)?,
-        console: frame.console.copy(alloc)?,
-        error: frame.error,
-    })
 }

@@ -22,58 +22,6 @@ const MESSAGE_LIMIT: usize = 65_536;
 // One more than the greatest number of nine digits.
 const NUMBER_LIMIT: i128 = 1_000_000_000;
 
-// The number of one to nine digits, with no zeros before other digits.
-fn natural(digits: &str) -> Option<i128>
-    ensures { result ≡ natural_in digits.now }
-{
-    match number(digits) {
-        Some(n) if n < NUMBER_LIMIT => Some(n),
-        _ => None,
-    }
-}
-
-// The number below 0 of such digits behind a `-`.
-fn negative(digits: &str) -> Option<i128>
-    ensures { result ≡ negative_in digits.now }
-{
-    match natural(digits) {
-        Some(n) if n > 0 => Some(-n),
-        _ => None,
-    }
-}
-
-// The number of which the word is the text.
-fn read_number(word: &str) -> Option<i128>
-    ensures { Reads (IsNumber word.now) result }
-{
-    match word.strip_prefix('-') {
-        None => natural(word),
-        Some(digits) => negative(digits),
-    }
-}
-
-// NAME and NUMBER of `{"set":{"NAME":NUMBER}}`, where NAME has no `"`.
-fn set_parts(text: &str) -> Option<(&str, &str)>
-    ensures { Reads (AreParts text.now) (option_map (λ p. (p.0.now, p.1.now)) result) }
-{
-    let (name, rest) = text.strip_prefix("{\"set\":{\"")?.split_once('"')?;
-    let number = rest.strip_prefix(':')?.strip_suffix("}}")?;
-    Some((name, number))
-}
-
-// The name, and the number to which the text sets its element.
-fn read_set(text: &str) -> Option<(&str, i128)>
-    ensures { Reads (IsSet text.now) (option_map (λ p. (p.0.now, p.1)) result) }
-{
-    let (name, word) = set_parts(text)?;
-    let number = read_number(word)?;
-    if is_name(name) {
-        Some((name, number))
-    } else {
-        None
-    }
-}
-
 /// The message of which these bytes are the text, whatever their number; none where they are the text of no message. A name is one of
 /// the thin form. A number has one to nine digits, no zeros before other digits, and a `-` before it where it is below 0.
 pub fn read_text(bytes: &[u8]) -> Option<Message<'_>>
@@ -97,4 +45,56 @@ pub fn read_message(bytes: &[u8]) -> Option<Message<'_>>
         return None;
     }
     read_text(bytes)
+}
+
+// The name, and the number to which the text sets its element.
+fn read_set(text: &str) -> Option<(&str, i128)>
+    ensures { Reads (IsSet text.now) (option_map (λ p. (p.0.now, p.1)) result) }
+{
+    let (name, word) = set_parts(text)?;
+    let number = read_number(word)?;
+    if is_name(name) {
+        Some((name, number))
+    } else {
+        None
+    }
+}
+
+// NAME and NUMBER of `{"set":{"NAME":NUMBER}}`, where NAME has no `"`.
+fn set_parts(text: &str) -> Option<(&str, &str)>
+    ensures { Reads (AreParts text.now) (option_map (λ p. (p.0.now, p.1.now)) result) }
+{
+    let (name, rest) = text.strip_prefix("{\"set\":{\"")?.split_once('"')?;
+    let number = rest.strip_prefix(':')?.strip_suffix("}}")?;
+    Some((name, number))
+}
+
+// The number of which the word is the text.
+fn read_number(word: &str) -> Option<i128>
+    ensures { Reads (IsNumber word.now) result }
+{
+    match word.strip_prefix('-') {
+        None => natural(word),
+        Some(digits) => negative(digits),
+    }
+}
+
+// The number of one to nine digits, with no zeros before other digits.
+fn natural(digits: &str) -> Option<i128>
+    ensures { result ≡ natural_in digits.now }
+{
+    match number(digits) {
+        Some(n) if n < NUMBER_LIMIT => Some(n),
+        _ => None,
+    }
+}
+
+// The number below 0 of such digits behind a `-`.
+fn negative(digits: &str) -> Option<i128>
+    ensures { result ≡ negative_in digits.now }
+{
+    match natural(digits) {
+        Some(n) if n > 0 => Some(-n),
+        _ => None,
+    }
 }

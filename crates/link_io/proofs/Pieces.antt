@@ -1,5 +1,5 @@
 -- What was read piece by piece.
-use Rattle.std.proofs.Common.{◌≡◌, ◌∙◌, ap, subst, sym, ℕ, ◌+◌, ◌<◌, ◌≤◌, refl, List, [], ◌++◌, append-nil, arith, length, length-take, take, drop}
+use Rattle.std.proofs.Common.{◌≡◌, ◌∙◌, ap, subst, sym, ℕ, ◌+◌, ◌<◌, ◌≤◌, refl, List, [], ◌++◌, arith, length, length-take, take, drop}
 use Rattle.std.proofs.Math.Seq.{take-add}
 use Rattle.std.proofs.lemmas.Grind.{common_steps}
 use Rattle.std.specs.Prelude.{Option, Some, None, IfSome}
@@ -32,11 +32,6 @@ next_beginning all before now n h b =
     let l : length now ≡ k + n = grind (arith, common_steps, h.there, e) in
     rw l e
 
--- a beginning that ends where the file ends is all of it, up to any limit that isn't below
-pub whole_beginning : (all before : List ℕ) (limit : ℕ) → length all ≤ length before → length before ≤ limit
-    → before ≡ take (length before) all → before ≡ take limit all
-whole_beginning all before limit e l b = grind (arith, common_steps)
-
 -- Where it is told what the name stands for: once something was read there is such a file, and the bytes are its beginning.
 pub data IsBeginning (holds : Option (Option (List ℕ))) (bytes : List ℕ) : Type 0 where
   untold : holds ≡ None → IsBeginning holds bytes
@@ -57,19 +52,3 @@ begun t all before is (beginning other e b) = let same : other ≡ all = cc in s
 pub next_begun : (holds : Option (Option (List ℕ))) (before now : List ℕ) (n : ℕ) → IsBeginning holds before → IfSome holds (λ t. (all : List ℕ) × (t ≡ Some all) × HasNext all before now n) → IsBeginning holds now
 next_begun None before now n b h = untold refl
 next_begun (Some t) before now n b h = beginning h.0 (ap Some h.1) (next_beginning h.0 before now n h.2 (begun t h.0 before h.1 b))
-
--- the end of the file was met
-pub ended : (holds : Option (Option (List ℕ))) (before now : List ℕ) (limit : ℕ) → IsBeginning holds before → length now ≤ limit → IfSome holds (λ t. (all : List ℕ) × (t ≡ Some all) × HasNext all before now 0) → IfSome holds (λ t. (all : List ℕ) × (t ≡ Some all) × (now ≡ take limit all))
-ended None before now limit b l h = tt
-ended (Some t) before now limit b l h =
-    let all = h.0 in
-    let same : now ≡ before = h.2.appended ∙ append-nil before in
-    let short : length before ≤ limit = omega (arith, l, ap length same) in
-    (all, h.1, same ∙ whole_beginning all before limit (h.2.at_end refl) short (begun t all before h.1 b))
-
--- as much as may be was read
-pub filled : (holds : Option (Option (List ℕ))) (bytes : List ℕ) (limit : ℕ) → IsBeginning holds bytes → length bytes ≡ limit → 0 < limit → IfSome holds (λ t. (all : List ℕ) × (t ≡ Some all) × (bytes ≡ take limit all))
-filled holds bytes limit (untold e) l h = subst (λ o. IfSome o (λ t. (all : List ℕ) × (t ≡ Some all) × (bytes ≡ take limit all))) (sym e) tt
-filled holds bytes limit (unread t e empty) l h = absurd (omega (arith, ap length empty, l, h))
-filled holds bytes limit (beginning all e b) l h =
-    subst (λ o. IfSome o (λ t. (all : List ℕ) × (t ≡ Some all) × (bytes ≡ take limit all))) (sym e) (all, refl, b ∙ ap (λ k. take k all) l)

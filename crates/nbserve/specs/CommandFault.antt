@@ -1,9 +1,8 @@
--- Commands that aren't carried out, and notebooks that aren't loaded.
+-- Commands that aren't carried out, notebooks that aren't loaded, and bytes that are no scripts.
 use Rattle.std.specs.Prelude.{◌≡◌, ◌⊎◌, ℕ, List, [], codes, Option}
 use Rattle.program_meaning.specs.Program as program
 use Rattle.program_meaning.specs.Program.{AreRead, Comes, FailsFirst, refusal_text}
 use Rattle.program_meaning.specs.Scripts.{FaultAt, fault_text}
-use Rattle.nbserve.specs.declared.refusal.Refusal.TheVariants as refusal
 use Rattle.script_run.specs.declared.script.ScriptFault.{ScriptFault}
 use Rattle.script_run.specs.declared.script.ScriptFault.TheVariants as script
 use Rattle.nbserve.specs.declared.command_fault.CommandFault.{CommandFault}

@@ -9,7 +9,7 @@ use Rattle.py_value.specs.Maps.{Map, where_name}
 use Rattle.py_value.specs.declared.types.Data.TheVariants as D
 use Rattle.py_value.specs.declared.types.Value.{Value}
 use Rattle.py_value.specs.declared.types.Value.TheVariants as V
-use Rattle.visit_meaning.specs.Answer.{Answered, Before, Message, On, Open, Part, Set, answer, answer_by, answer_set, answer_with, at_no_cost, counted, next, parts_from, results_of, value_set, with_value}
+use Rattle.visit_meaning.specs.Answer.{Answered, Before, Message, On, Open, Part, Set, answer, answer_by, answer_set, answer_with, at_no_cost, counted, present_after, parts_from, results_of, value_set, with_value}
 use Rattle.graph_meaning.specs.Graph.{elements_of}
 use Rattle.run_meaning.specs.Meaning.{Env}
 use Rattle.graph_meaning.specs.Reruns.{rerun}
@@ -68,7 +68,7 @@ opened_is = simp (same_text, a_number, a_text)
 fits : value_set opened (codes "s", V.Int (pos 4)) ≡ Some (D.Int (pos 4))
 fits = simp (same_text, a_number)
 
-next_is : next with_slider opened [] s_at_four ≡ s_at_four
+next_is : present_after with_slider opened [] s_at_four ≡ s_at_four
 next_is =
     let kept = λ (x : Name). not (is_among x (flat_map (elements_of with_slider) (rerun with_slider (codes "s" ∷ [])))) in
     ap (λ o. where_name kept (with_value (codes "s") o [])) fits

@@ -1,4 +1,4 @@
-//! Scripts, and what the program writes.
+//! Scripts, acceptance and refusals, what the program writes; worked notebooks.
 #![tactic(auto)]
 
 pub mod laws;

@@ -1,6 +1,7 @@
 -- A line of the code in its block.
 use Rattle.std.proofs.Common.{◌≡◌, ◌∙◌, ap, sym, subst, ℕ, suc, ◌+◌, ◌<◌, true, IsTrue, ◌&&◌, List, ◌∷◌, ◌++◌, length, drop, get_or, add-one}
 use Rattle.std.proofs.Math.Seq.{drop-cons}
+use Rattle.std.proofs.lemmas.Bool.{and_parts}
 use Rattle.py_tree.specs.declared.tree.Stmt.{Stmt, out-Stmt, roll-out-Stmt, fold-roll-Stmt}
 use Rattle.py_tree.specs.Levels.{is_levelled_head, are_levelled}
 use Rattle.py_tree.specs.Names.{Name, is_among}
@@ -8,7 +9,6 @@ use Rattle.py_tree.specs.Scope.{bound, head_binds}
 use Rattle.py_tree.specs.Trees.{Head, Stmts, stmt, then_comes}
 use Rattle.py_tree.specs.Trees as pure
 use Rattle.py_tree.specs.View.{view_head, view_block, view_stmt, view_stmts, block_step, stmt_step}
-use Rattle.py_eval.proofs.Conjunctions.{and_left, and_right}
 use Rattle.py_eval.proofs.Kept.{among_left, among_right}
 
 view_line : (s : Stmt) → view_stmt s ≡ stmt (out-Stmt s).number (view_head (out-Stmt s).line) (view_block (out-Stmt s).block)
@@ -26,10 +26,10 @@ module _ (lines rest block : Stmts) (n : ℕ) (head : Head) (is : lines ≡ then
   levelled h = subst (λ ss. are_levelled ss ≡ true) is h
 
   pub first_levelled : IsTrue (are_levelled lines) → IsTrue (is_levelled_head head)
-  first_levelled h = and_left (is_levelled_head head) (are_levelled block) (and_left (is_levelled_head head && are_levelled block) (are_levelled rest) (levelled h))
+  first_levelled h = (and_parts (is_levelled_head head) (are_levelled block) (and_parts (is_levelled_head head && are_levelled block) (are_levelled rest) (levelled h)).0).0
 
   pub rest_levelled : IsTrue (are_levelled lines) → IsTrue (are_levelled rest)
-  rest_levelled h = and_right (is_levelled_head head && are_levelled block) (are_levelled rest) (levelled h)
+  rest_levelled h = (and_parts (is_levelled_head head && are_levelled block) (are_levelled rest) (levelled h)).1
 
   pub first_binds : (x : Name) → is_among x (head_binds head) ≡ true → is_among x (bound lines) ≡ true
   first_binds x h = ap (λ ss. is_among x (bound ss)) is ∙ among_left x (head_binds head ++ bound block) (bound rest) (among_left x (head_binds head) (bound block) h)

@@ -1,4 +1,4 @@
-//! Tokens and trees of notebook code, and what they spell.
+//! Tokens and trees of notebook code and what they spell, names, numbers, and lines of bytes.
 //!
 //! Boxes and lists in types that lead back to themselves (`Boxed`, and `Items` in `py_value`) come from the kit's `sqlite_items`,
 //! which has nothing of a database: its `Boxed` is seen as the value in it and its `Items` as a list, both over the global
@@ -7,22 +7,22 @@
 
 mod builtins;
 mod element;
-mod lists;
 mod literal;
 mod names;
 mod numbers;
 mod row;
+mod spellings;
 mod text_lines;
 mod token;
 mod tree;
 
 pub use builtins::is_builtin;
 pub use element::ui_kind;
-pub use lists::{Spelling, Spellings};
 pub use literal::literal_int;
 pub use names::is_name;
 pub use numbers::number;
 pub use row::Row;
+pub use spellings::{Spelling, Spellings};
 pub use text_lines::{BYTE_LIMIT, whole_line};
 pub use token::{Token, TokenKind};
 pub use tree::{Block, CellCode, Expr, Line, Stmt};

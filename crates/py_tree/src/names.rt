@@ -1,4 +1,4 @@
-// Names of a line.
+// Whether a word is a name.
 ghost use Rattle.std.specs.Prelude.{◌≡◌};
 ghost use Rattle.std.specs.List.{list_all};
 ghost use Rattle.py_tree.specs.Names.{is_among, is_name_byte};
@@ -14,16 +14,11 @@ const KEYWORDS_AND_FILE_NAMES: [&str; 38] = [
     "try", "yield", "app", "marimo", "mo",
 ];
 
-fn name_byte(byte: u8) -> bool
-    ensures { result ≡ is_name_byte byte }
+/// Whether the word is spelled as a name, and is none of the reserved words.
+pub fn is_name(word: &str) -> bool
+    ensures { result ≡ names.is_name word.now }
 {
-    byte.is_ascii_lowercase() || byte.is_ascii_digit() || byte == b'_'
-}
-
-fn are_name_bytes(bytes: &[u8]) -> bool
-    ensures { result ≡ list_all is_name_byte bytes.now }
-{
-    bytes.iter().all(|byte| name_byte(*byte))
+    is_plain_name(word) && !is_reserved(word)
 }
 
 fn is_plain_name(word: &str) -> bool
@@ -35,15 +30,20 @@ fn is_plain_name(word: &str) -> bool
     }
 }
 
+fn are_name_bytes(bytes: &[u8]) -> bool
+    ensures { result ≡ list_all is_name_byte bytes.now }
+{
+    bytes.iter().all(|byte| name_byte(*byte))
+}
+
+fn name_byte(byte: u8) -> bool
+    ensures { result ≡ is_name_byte byte }
+{
+    byte.is_ascii_lowercase() || byte.is_ascii_digit() || byte == b'_'
+}
+
 fn is_reserved(word: &str) -> bool
     ensures { result ≡ is_among word.now names.reserved }
 {
     KEYWORDS_AND_FILE_NAMES.contains(&word) || is_builtin(word)
-}
-
-/// Whether the word is spelled as a name, and is none of the reserved words.
-pub fn is_name(word: &str) -> bool
-    ensures { result ≡ names.is_name word.now }
-{
-    is_plain_name(word) && !is_reserved(word)
 }

@@ -1,13 +1,17 @@
-// Numbers of a line.
+// The number that a word spells.
 ghost use Rattle.std.specs.Prelude.{◌≡◌, ◌<◌, ◌&&◌, ◌^◌, cond, length, nat_lt, pos, Some, None};
 ghost use Rattle.std.specs.List.{list_all};
 ghost use Rattle.py_tree.specs.Names.{is_digit};
 ghost use Rattle.py_tree.specs.Numbers.{is_number, number_of};
 
-fn are_digits(bytes: &[u8]) -> bool
-    ensures { result ≡ list_all is_digit bytes.now }
+/// The number of the word: of a digit, or of digits that don't begin with 0, where an `i128` holds it.
+pub fn number(word: &str) -> Option<i128>
+    ensures { result ≡ cond (is_number word.now) (Some (pos (number_of word.now))) None }
 {
-    bytes.iter().all(|byte| byte.is_ascii_digit())
+    match word.as_bytes() {
+        [] | [b'0', _, ..] => None,
+        _ => decimal(word),
+    }
 }
 
 // The number that digits spell, where an `i128` holds it.
@@ -23,12 +27,8 @@ fn decimal(word: &str) -> Option<i128>
     word.parse::<i128>().ok()
 }
 
-/// The number of the word: of a digit, or of digits that don't begin with 0, where an `i128` holds it.
-pub fn number(word: &str) -> Option<i128>
-    ensures { result ≡ cond (is_number word.now) (Some (pos (number_of word.now))) None }
+fn are_digits(bytes: &[u8]) -> bool
+    ensures { result ≡ list_all is_digit bytes.now }
 {
-    match word.as_bytes() {
-        [] | [b'0', _, ..] => None,
-        _ => decimal(word),
-    }
+    bytes.iter().all(|byte| byte.is_ascii_digit())
 }

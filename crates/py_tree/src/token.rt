@@ -1,5 +1,5 @@
 // Tokens.
-use crate::lists::Spelling;
+use crate::spellings::Spelling;
 
 /// What a token is.
 #[derive(Clone, Copy, Debug, PartialEq, Eq)]

@@ -1,5 +1,6 @@
 -- Python's equality, level by level.
 use Rattle.std.proofs.Common.{◌≡◌, ℕ, ℤ, ◌<◌, ◌+◌, ◌==◌, ◌&&◌, ◌||◌, Bool, true, false, List, [], ◌∷◌, map, length, drop, get_or, arith, sym, ap, ◌∙◌, refl}
+use Rattle.std.proofs.lemmas.Bool.{and_parts}
 use Rattle.std.proofs.lemmas.Bool.Decides.{nat_tests}
 use Rattle.std.proofs.lemmas.List.{drop_more}
 use Rattle.py_value.specs.declared.types.Data.{Data}
@@ -79,15 +80,11 @@ eq-Dict ps v = ap (λ (d : Data). eq_of d (data_of v)) (sym (rolls-Dict ps)) ∙
 eq-Dict-Dict : (ps qs : List (Data × Data)) → eq_of (D.Dict ps) (D.Dict qs) ≡ ((length ps == length qs) && pairs_in ps qs)
 eq-Dict-Dict ps qs = eq-Dict ps (V.Dict qs) ∙ ap (λ n. (n == length qs) && all_pass (map tests ps) qs) (tests_long ps) ∙ ap (λ x. (length ps == length qs) && x) (all ps qs)
 
-right_of : (a b : Bool) → (a && b) ≡ true → b ≡ true
-right_of true b h = h
-right_of false b h = cc
-
 each_eq_long : (cs ds : List Data) → each_eq cs ds ≡ true → length cs ≡ length ds
 each_eq_long [] [] h = refl
 each_eq_long [] (d ∷ ds) h = cc
 each_eq_long (c ∷ cs) [] h = cc
-each_eq_long (c ∷ cs) (d ∷ ds) h = omega (arith, each_eq_long cs ds (right_of (eq_of c d) (each_eq cs ds) h))
+each_eq_long (c ∷ cs) (d ∷ ds) h = omega (arith, each_eq_long cs ds (and_parts (eq_of c d) (each_eq cs ds) h).1)
 
 pub all_long : (vs : List Value) → length (all_of vs) ≡ length vs
 all_long [] = refl

@@ -3,7 +3,7 @@ ghost use Rattle.std.specs.Prelude.{◌≡◌, ◌==◌, ◌&&◌, length};
 ghost use Rattle.py_value.specs.View.{data_of, all_of, pairs_of, pair_of};
 ghost use Rattle.py_value.specs.Eq.{eq_of, each_eq, pairs_in, has_pair, number_eq};
 
-use crate::numbers::{bit, number_of};
+use crate::sums::{bit, number_of};
 use crate::types::Value;
 
 // Whether two values are equal.

@@ -23,15 +23,15 @@ pub data IsRun {A : Type 0} : Trace A → List Mark → End A → Type 0 where
   charge : {n line : ℕ} {t : Trace A} {ms : List Mark} {e : End A} → IsRun t ms e → IsRun (Charges n line t) (Charge n line ∷ ms) e
   print : {x : List ℕ} {t : Trace A} {ms : List Mark} {e : End A} → IsRun t ms e → IsRun (Prints x t) (Printed x ∷ ms) e
 
--- one list is the front of another
-abbrev pub IsFront : List Mark → List Mark → Type 0
-IsFront ms ms' = (rest : List Mark) × (ms' ≡ ms ++ rest)
+-- one list is a prefix of another
+abbrev pub IsPrefix : List Mark → List Mark → Type 0
+IsPrefix ms ms' = (rest : List Mark) × (ms' ≡ ms ++ rest)
 
--- two runs are the same, or one is cut and its marks are a front of the other's
+-- two runs are the same, or one is cut and its marks are a prefix of the other's
 pub data Alike {A : Type 0} (ms ms' : List Mark) (e e' : End A) : Type 0 where
   same : ms ≡ ms' → e ≡ e' → Alike ms ms' e e'
-  first_cut : e ≡ Cut → IsFront ms ms' → Alike ms ms' e e'
-  second_cut : e' ≡ Cut → IsFront ms' ms → Alike ms ms' e e'
+  first_cut : e ≡ Cut → IsPrefix ms ms' → Alike ms ms' e e'
+  second_cut : e' ≡ Cut → IsPrefix ms' ms → Alike ms ms' e e'
 
 -- what the charges add up to
 abbrev pub cost : List Mark → ℕ

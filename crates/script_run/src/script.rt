@@ -24,29 +24,6 @@ const JOIN_LINE: &[u8] = b"join 1";
 // What stands before the text of a message.
 const SEND_WORDS: &[u8] = b"send 1 ";
 
-// The first line without its `\n`, which the last line may lack, and what comes after it.
-fn first_line(bytes: &[u8]) -> (&[u8], &[u8])
-    requires { 0 < length bytes.now }
-    ensures { FirstLine bytes.now result.0.now result.1.now }
-{
-    match whole_line(bytes) {
-        Some(cut) => cut,
-        None => (bytes, &[]),
-    }
-}
-
-// The text of the message that the line sends; none where it sends none.
-fn sent_text(line: &[u8]) -> Option<&[u8]>
-    ensures { MatchOption result ((m : Message) → IsSend line.now m → ⊥)
-        (λ text. (m : Message) × IsSend line.now m × IsMessage text.now m) }
-{
-    let text = line.strip_prefix(SEND_WORDS)?;
-    match read_text(text) {
-        Some(_) => Some(text),
-        None => None,
-    }
-}
-
 /// The messages that the visitor sends by the script of which these bytes are the text: nothing, or a line `join 1` and then lines
 /// `send 1 MESSAGE`. The last line may lack its line feed.
 pub fn read_script(alloc: Global, bytes: &[u8]) -> Result<Vec<&[u8]>, ScriptFault>
@@ -77,4 +54,27 @@ pub fn read_script(alloc: Global, bytes: &[u8]) -> Result<Vec<&[u8]>, ScriptFaul
         rest = behind;
     }
     Ok(sent)
+}
+
+// The first line without its `\n`, which the last line may lack, and what comes after it.
+fn first_line(bytes: &[u8]) -> (&[u8], &[u8])
+    requires { 0 < length bytes.now }
+    ensures { FirstLine bytes.now result.0.now result.1.now }
+{
+    match whole_line(bytes) {
+        Some(cut) => cut,
+        None => (bytes, &[]),
+    }
+}
+
+// The text of the message that the line sends; none where it sends none.
+fn sent_text(line: &[u8]) -> Option<&[u8]>
+    ensures { MatchOption result ((m : Message) → IsSend line.now m → ⊥)
+        (λ text. (m : Message) × IsSend line.now m × IsMessage text.now m) }
+{
+    let text = line.strip_prefix(SEND_WORDS)?;
+    match read_text(text) {
+        Some(_) => Some(text),
+        None => None,
+    }
 }

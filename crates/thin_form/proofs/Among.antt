@@ -7,12 +7,10 @@ use Rattle.std.proofs.lemmas.List.Folds.{list_all-append, list_any-append}
 use Rattle.std.proofs.lemmas.Slice.Eq.{bytes_eq-Decides}
 use Rattle.py_tree.specs.TextLines.{is_unbroken, text_of}
 use Rattle.py_tree.proofs.Breaks.{are_unbroken}
+use Rattle.py_tree.proofs.NamesOf.{name_of}
 use Rattle.thin_form.proofs.HasLines.{first_or_later, has_later, lineless}
 use Rattle.thin_form.proofs.HasLines as lines
 use Rattle.form_meaning.specs.Fails.{HasLine}
-
-pub same_bytes : (x y : List ℕ) → bytes_eq x y ≡ true → x ≡ y
-same_bytes x y e = let d = bytes_eq-Decides x y in d.0 e
 
 pub equal_bytes : (x y : List ℕ) → x ≡ y → bytes_eq x y ≡ true
 equal_bytes x y e = let d = bytes_eq-Decides x y in d.1 e
@@ -62,6 +60,6 @@ line_has line (y ∷ ys) rest h =
     let P : List ℕ → Type 0 = λ bytes. HasLine bytes line in
     let F : List ℕ → Type 0 = λ l. HasLine (y ++ 10 ∷ (text_of ys ++ rest)) l in
     subst P (sym (cut_first y ys rest)) (elim (or_cases (bytes_eq y line) (has line ys) h) as (λ _. HasLine (y ++ 10 ∷ (text_of ys ++ rest)) line) [
-      | inl e ↦ subst F (same_bytes y line e) (lines.has_first y (text_of ys ++ rest))
+      | inl e ↦ subst F (name_of y line e) (lines.has_first y (text_of ys ++ rest))
       | inr more ↦ has_later y (text_of ys ++ rest) line (line_has line ys rest more)
     ])

@@ -7,13 +7,14 @@ use Rattle.std.proofs.Math.Path.{fun_ext}
 use Rattle.std.proofs.lemmas.Bool.{and_parts, and_from, or_cases, or_left, or_right, false≢true}
 use Rattle.std.proofs.lemmas.Bool.Decides.{same_from_decides}
 use Rattle.std.proofs.lemmas.List.Folds.{list_any-append}
-use Rattle.thin_form.proofs.Among.{equal_bytes, has, has-append, has_first, has_left, has_line, has_right, line_has, same_bytes}
+use Rattle.thin_form.proofs.Among.{equal_bytes, has, has-append, has_first, has_left, has_line, has_right, line_has}
 use Rattle.thin_form.proofs.OneLine.{line_one, line_unbroken, not_last}
 use Rattle.thin_form.proofs.OneToOne.{unbroken_file}
 use Rattle.thin_form.proofs.Parts.{cell_parts, first_line}
 use Rattle.form_meaning.specs.Fails.{HasLine, AreElements}
 use Rattle.form_meaning.specs.Thin.{Elements, makes_slider, is_target, is_line, is_sum, are_lines, line_count, are_cells, head_sliders, sliders, is_import, has_import, elements_of, line_text, body_lines, cell_lines, last_line, footer, file_lines}
 use Rattle.py_tree.specs.TextLines.{text_of}
+use Rattle.py_tree.proofs.NamesOf.{name_of}
 use Rattle.py_tree.specs.Names.{Name, is_among, is_name}
 use Rattle.py_tree.specs.Trees.{Tree, Head, assign, import_mo, stmt, Stmts, end, then_comes, Cell}
 
@@ -61,7 +62,7 @@ passes_body es fs n end h p fits line pass among = absurd (false≢true among)
 passes_body es fs n (then_comes (stmt k g block) rest) h p fits line pass among =
     let w = first_line es n k g block rest fits in
     elim (or_cases (bytes_eq (line_text g) (line_text h)) (has (line_text h) (body_lines rest)) among) as (λ _. IsTrue (p g || any_head p rest)) [
-      | inl e ↦ let same : g ≡ h = line_one es fs g h w.fits line (same_bytes _ _ e) in or_left (p g) (any_head p rest) (rw same pass)
+      | inl e ↦ let same : g ≡ h = line_one es fs g h w.fits line (name_of _ _ e) in or_left (p g) (any_head p rest) (rw same pass)
       | inr more ↦ or_right _ _ (passes_body es fs (n + 1) rest h p w.more line pass more)
     ]
 
@@ -79,7 +80,7 @@ passes_cells es fs n (c ∷ cs) h p fits line pass among =
 no_footer : (fs : Elements) (h : Head) → IsTrue (is_line fs h) → IsTrue (has (line_text h) footer) → ⊥
 no_footer fs h line among =
     elim (or_cases (bytes_eq last_line (line_text h)) false among) as (λ _. ⊥) [
-      | inl e ↦ not_last fs h line (sym (same_bytes _ _ e))
+      | inl e ↦ not_last fs h line (sym (name_of _ _ e))
       | inr none ↦ false≢true none
     ]
 
@@ -138,7 +139,7 @@ named x t slider = rw slider (or_left _ _ (equal_bytes x x refl))
 one_name : (es : Elements) (targets : List Name) (t : Tree) (x : Name) → IsTrue (is_line es (assign targets t)) → IsTrue (is_among x targets) → IsTrue (is_name x) × (targets ≡ x ∷ [])
 one_name es [] t x line among = absurd (false≢true among)
 one_name es (y ∷ []) t x line among =
-    let same : y ≡ x = elim (or_cases (bytes_eq y x) false among) as (λ _. y ≡ x) [ inl e ↦ same_bytes y x e | inr none ↦ absurd (false≢true none) ] in
+    let same : y ≡ x = elim (or_cases (bytes_eq y x) false among) as (λ _. y ≡ x) [ inl e ↦ name_of y x e | inr none ↦ absurd (false≢true none) ] in
     let name : IsTrue (is_name y) = elim (or_cases (is_target es false (y ∷ []) && is_sum es t) (is_target es true (y ∷ []) && makes_slider t && es.imported) line) as (λ _. IsTrue (is_name y)) [
       | inl plain ↦ (and_parts _ _ (and_parts _ _ plain).0).0
       | inr slider ↦ (and_parts _ _ (and_parts _ _ (and_parts _ _ slider).0).0).0

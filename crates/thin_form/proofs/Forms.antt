@@ -1,23 +1,19 @@
 -- What the tests of terms and sliders tell of a tree.
 use Rattle.std.proofs.Common.{◌≡◌, ℕ, true, nat_le, List, refl, sym, ap, ◌∙◌}
 use Rattle.std.specs.Prelude.{codes}
-use Rattle.std.specs.Str.{bytes_eq}
 use Rattle.std.proofs.lemmas.Bool.{and_parts, and_from}
-use Rattle.std.proofs.lemmas.Slice.Eq.{bytes_eq-Decides}
 use Rattle.thin_form.specs.Sliders.{Bounds, maker, slider, are_bounds}
 use Rattle.thin_form.specs.Sums.{numeral, value_of}
 use Rattle.form_meaning.specs.Thin as thin
 use Rattle.py_tree.specs.Elements.{is_mo, is_mo_ui}
 use Rattle.form_meaning.specs.Thin.{Elements, is_term, is_maker, is_number_tree, makes_slider}
+use Rattle.py_tree.proofs.NamesOf.{name_of}
 use Rattle.py_tree.specs.Levels.{is_literal}
 use Rattle.py_tree.specs.Names.{Name, is_name}
 use Rattle.py_tree.specs.Numbers.{is_number, number_of}
 use Rattle.py_tree.specs.Trees.{Tree, literal, name, attribute, call, Trees, none, more}
 use Rattle.py_tree.specs.declared.token.TokenKind.{TokenKind}
 use Rattle.py_tree.specs.declared.token.TokenKind.TheVariants as kind
-
-same_bytes : (a b : List ℕ) → bytes_eq a b ≡ true → a ≡ b
-same_bytes a b = (bytes_eq-Decides a b).0
 
 -- an attribute that is a term is the value of a slider
 pub record IsValue (es : Elements) (t : Tree) : Type 0 where
@@ -30,7 +26,7 @@ pub value_form : (es : Elements) (base : Tree) (x : Name) → is_term es (attrib
 value_form es (name y) x h =
     let s = and_parts _ _ h in
     let known = and_parts (is_name y) _ s.0 in
-    record { slider = y; is = ap (attribute (name y)) (same_bytes x (codes "value") s.1); named = known.0; known = known.1 }
+    record { slider = y; is = ap (attribute (name y)) (name_of x (codes "value") s.1); named = known.0; known = known.1 }
 value_form es t x h = absurd (cc)
 
 literal_form : (k : TokenKind) (w : List ℕ) → is_literal k w ≡ true → (literal (record { kind = k; spelling = w }) ≡ numeral w) × (is_number w ≡ true)
@@ -73,20 +69,20 @@ bounds_form (more a (more b none)) h =
 bounds_form ts h = absurd (cc)
 
 mo_form : (t : Tree) → is_mo t ≡ true → t ≡ name (codes "mo")
-mo_form (name y) h = ap name (same_bytes y (codes "mo") h)
+mo_form (name y) h = ap name (name_of y (codes "mo") h)
 mo_form t h = absurd (cc)
 
 mo_ui_form : (t : Tree) → is_mo_ui t ≡ true → t ≡ attribute (name (codes "mo")) (codes "ui")
 mo_ui_form (attribute base y) h =
     let s = and_parts _ _ h in
-    ap (λ t. attribute t y) (mo_form base s.0) ∙ ap (attribute (name (codes "mo"))) (same_bytes y (codes "ui") s.1)
+    ap (λ t. attribute t y) (mo_form base s.0) ∙ ap (attribute (name (codes "mo"))) (name_of y (codes "ui") s.1)
 mo_ui_form t h = absurd (cc)
 
 maker_form : (t : Tree) → is_maker t ≡ true → t ≡ maker
 maker_form (attribute base y) h =
     let s = and_parts _ _ h in
     ap (λ t. attribute t y) (mo_ui_form base s.0)
-    ∙ ap (attribute (attribute (name (codes "mo")) (codes "ui"))) (same_bytes y (codes "slider") s.1)
+    ∙ ap (attribute (attribute (name (codes "mo")) (codes "ui"))) (name_of y (codes "slider") s.1)
 maker_form t h = absurd (cc)
 
 -- a slider with its bounds

@@ -5,8 +5,9 @@ use Rattle.std.proofs.lemmas.Bool.{and_parts, and_from, or_cases, or_left, or_ri
 use Rattle.std.proofs.lemmas.List.{length-take-le}
 use Rattle.py_tree.specs.TextLines.{is_unbroken, text_of, byte_limit}
 use Rattle.py_tree.proofs.Breaks.{are_unbroken}
+use Rattle.py_tree.proofs.NamesOf.{name_of}
 use Rattle.thin_form.proofs.FileElements.{all_elements, slider_line}
-use Rattle.thin_form.proofs.Among.{equal_bytes, has, has_line, line_has, same_bytes}
+use Rattle.thin_form.proofs.Among.{equal_bytes, has, has_line, line_has}
 use Rattle.thin_form.proofs.OneLine.{line_one, line_unbroken}
 use Rattle.form_meaning.specs.Fails.{HasSlider, AreElements, IsFormless, LinesFit, FailsAt}
 use Rattle.form_meaning.specs.Thin.{Elements, makes_slider, line_text, file_lines}
@@ -72,11 +73,11 @@ one_more : (line : List ℕ) (lines : List (List ℕ)) → IsSlider line → Are
 one_more line lines s r = record {
   names = s.name ∷ r.names;
   made = λ x among. elim (or_cases (bytes_eq s.name x) (is_among x r.names) among) as (λ _. MakesSlider (line ∷ lines) x) [
-    | inl e ↦ first_made line lines s x (same_bytes s.name x e)
+    | inl e ↦ first_made line lines s x (name_of s.name x e)
     | inr more ↦ behind line lines x (r.made x more)
   ];
   all = λ x m. elim (or_cases (bytes_eq line (line_text (assign (x ∷ []) m.0))) (has (line_text (assign (x ∷ []) m.0)) lines) m.3) as (λ _. IsTrue (bytes_eq s.name x || is_among x r.names)) [
-    | inl e ↦ let same = line_one all_elements all_elements (assign (s.name ∷ []) s.tree) (assign (x ∷ []) m.0) (slider_line s.name s.tree s.fits s.makes) (slider_line x m.0 m.1 m.2) (sym s.text ∙ same_bytes line _ e) in
+    | inl e ↦ let same = line_one all_elements all_elements (assign (s.name ∷ []) s.tree) (assign (x ∷ []) m.0) (slider_line s.name s.tree s.fits s.makes) (slider_line x m.0 m.1 m.2) (sym s.text ∙ name_of line _ e) in
         or_left _ _ (equal_bytes s.name x (same_name s.name x s.tree m.0 same))
     | inr more ↦ or_right _ _ (r.all x (m.0, m.1, m.2, more))
   ];
@@ -87,7 +88,7 @@ no_more line lines none r = record {
   names = r.names;
   made = λ x among. behind line lines x (r.made x among);
   all = λ x m. elim (or_cases (bytes_eq line (line_text (assign (x ∷ []) m.0))) (has (line_text (assign (x ∷ []) m.0)) lines) m.3) as (λ _. IsTrue (is_among x r.names)) [
-    | inl e ↦ absurd (none (record { name = x; tree = m.0; fits = m.1; makes = m.2; text = same_bytes line _ e }))
+    | inl e ↦ absurd (none (record { name = x; tree = m.0; fits = m.1; makes = m.2; text = name_of line _ e }))
     | inr more ↦ r.all x (m.0, m.1, m.2, more)
   ];
 }

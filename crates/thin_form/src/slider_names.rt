@@ -1,4 +1,4 @@
-// What the lines of a file say of its elements.
+// The names of the sliders that the lines of a file make, and whether a line imports `mo`.
 ghost use Rattle.std.specs.Prelude.{◌≡◌, codes, IfOk, OnOk};
 ghost use Rattle.std.specs.Str.{bytes_eq};
 ghost use Rattle.thin_form.specs.SliderNames.{as_elements, unknown, Learns};

@@ -1,7 +1,6 @@
-// Sliders of a line.
+// The slider that a line makes: its name and its bounds.
 ghost use Rattle.std.specs.Prelude.{◌≡◌, ℕ, List, ◌++◌, codes, option_map, MatchOption};
 ghost use Rattle.std.specs.Str.{IsUtf8};
-ghost use Rattle.thin_form.specs.Sliders.{Bounds};
 ghost use Rattle.thin_form.specs.Sliders as reading;
 ghost use Rattle.thin_form.specs.Words.{words};
 
@@ -9,7 +8,7 @@ use crate::words::{target, two_words, without_back, without_front};
 use py_tree::{is_name, number};
 use std::str;
 
-// The same of a whole line, of any bytes, with its indent.
+// The name to which a whole line, of any bytes, with its indent, assigns a slider.
 pub fn slider_in(line: &[u8]) -> Option<&str>
     ensures { option_map (λ t. t.now) result ≡ reading.slider_in line.now }
 {
@@ -26,7 +25,7 @@ pub fn read_bounds(text: &str) -> Option<(&str, &str)>
     bounds_in(first, second)
 }
 
-// The name to which a line assigns a slider.
+// The name to which the text of a line assigns a slider.
 fn slider_name(text: &str) -> Option<&str>
     ensures { option_map (λ t. t.now) result ≡ reading.slider_name text.now }
 {

@@ -1,5 +1,5 @@
-pub mod Admits
 pub mod Calls
+pub mod MemoryOrNone
+pub mod NumberOrTruth
 pub mod Ranges
 pub mod Samples
-pub mod Wanting

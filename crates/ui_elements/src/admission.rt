@@ -2,7 +2,7 @@
 ghost use Rattle.std.specs.Prelude.{◌≡◌, Some, None, IfErr, IfOk};
 ghost use Rattle.py_value.specs.View.{data_of, value_of};
 ghost use Rattle.py_value.specs.Elements.{admitted, admits_number, number_in, range_at};
-ghost use Rattle.ui_elements.specs.Admits.{IsNumberOrTruth};
+ghost use Rattle.ui_elements.specs.NumberOrTruth.{IsNumberOrTruth};
 
 use crate::params::number_in;
 use crate::ranges::{is_in_range, range_at};

@@ -5,7 +5,7 @@ ghost use Rattle.py_value.specs.Maps.{look_up};
 ghost use Rattle.py_value.specs.View.{data_of, all_of};
 ghost use Rattle.py_value.specs.Elements.{argument, default_of, params_after, params_of_call};
 ghost use Rattle.ui_elements.specs.Calls.{arguments_of, parameter_of, parameters_of, preset_of, words_of};
-ghost use Rattle.ui_elements.specs.Wanting.{IsMemoryOrNone};
+ghost use Rattle.ui_elements.specs.MemoryOrNone.{IsMemoryOrNone};
 
 use crate::args::{Args, Word};
 use crate::parameters::{Parameter, Preset};

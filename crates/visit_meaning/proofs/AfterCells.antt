@@ -9,7 +9,7 @@ use Rattle.py_value.specs.declared.types.Value.{Value}
 use Rattle.frames.specs.declared.frame.CellFrame.{CellFrame}
 use Rattle.graph_meaning.specs.Graph.{is_in, order}
 use Rattle.graph_meaning.specs.Reruns.{is_within, rerun}
-use Rattle.visit_meaning.specs.Answer.{On, Set, answer, counted, names_of, next, results_of}
+use Rattle.visit_meaning.specs.Answer.{On, Set, answer, counted, names_of, present_after, results_of}
 use Rattle.visit_meaning.specs.Rerun.{AllSet, IsAfresh, Kept, after_cells, after_code, after_outcome, given_by, given_by_code, nothing_bound, with_values}
 use Rattle.visit_meaning.specs.Underway.{Going, HasNoElements, outcome_now}
 use Rattle.visit_meaning.specs.Whole.{Outcome}
@@ -77,7 +77,7 @@ rerun_there nb names c on = places_below nb (length nb) c (in_all (is_within nb 
 module _ (nb : List Cell) (budget : ℕ) (ui sets : Map Value) (kept : Kept) (runs : Runs nb) (afresh : IsAfresh nb budget ui kept)
     (all : AllSet kept.env sets) where
   abbrev present : Map Value
-  present = next nb kept.env ui sets
+  present = present_after nb kept.env ui sets
 
   abbrev again : List ℕ
   again = rerun nb (names_of sets)

@@ -17,7 +17,7 @@ use Rattle.py_value.specs.declared.types.Data.{Data}
 use Rattle.py_value.specs.declared.types.Data.TheVariants as D
 use Rattle.py_value.specs.declared.types.Value.{Value}
 use Rattle.py_value.proofs.SortedMaps.{look_up-put, look_up-put_other, look_up-where_name, name_of}
-use Rattle.visit_meaning.specs.Answer.{element_in, names_of, next, value_set, with_sets, with_value}
+use Rattle.visit_meaning.specs.Answer.{element_in, names_of, present_after, value_set, with_sets, with_value}
 use Rattle.graph_meaning.specs.Graph.{elements_of}
 use Rattle.run_meaning.specs.Meaning.{Env}
 use Rattle.graph_meaning.specs.Reruns.{rerun}
@@ -84,6 +84,6 @@ where_plain p ui kept x v h = by (p x) (sym (look_up-where_name p x ui) ∙ h)
 pub none_kept : HasNoElements []
 none_kept x v h = absurd (none-some v h)
 
-pub next_plain : (nb : List Cell) (env : Env) (ui sets : Map Value) → HasNoElements ui → HasNoElements (next nb env ui sets)
+pub next_plain : (nb : List Cell) (env : Env) (ui sets : Map Value) → HasNoElements ui → HasNoElements (present_after nb env ui sets)
 next_plain nb env ui sets kept =
     where_plain (λ x. not (is_among x (flat_map (elements_of nb) (rerun nb (names_of sets))))) (with_sets env sets ui) (sets_plain env sets ui kept)

@@ -355,37 +355,7 @@ same_by_reads budget ui ui' may_run c env env' code agree same =
     (λ m n e x both. where_related (λ o p. o ≡ p) (λ y. not (is_local y)) x m n refl (e x both))
     (λ x both. both))
 
--- ---- present values
-
-equal_kept : (ui ui' : Map Value) (names binds makes : List Name) → Agree makes ui ui' → IsKept ui ui' (λ m n. m ≡ n) names binds makes
-equal_kept ui ui' names binds makes same = record {
-  looks = λ m n e x h. ap (look_up x) e;
-  puts = λ x b m n h e. ap (put x b) e;
-  elements = λ x d m n h b e. λ i. put x (Plain (V.Element (at_kept (same x h i) d))) (e i);
-}
-
--- Present values matter only at the elements that the cell creates.
-pub same_present : (budget : ℕ) (ui ui' : Map Value) (may_run : Bool) (c : ℕ) (env : Env) (code : Cell) → Agree (elements code) ui ui'
-    → outcome_of budget ui may_run c env code ≡ outcome_of budget ui' may_run c env code
-same_present budget ui ui' may_run c env code same =
-    let both = outcome_kept (λ m n. m ≡ n) budget ui ui' may_run c env env code
-    (equal_kept ui ui' (read_names code.body) (bound code.body) (elements code) same) (λ m n e. ap lasting e) refl in
-    λ i. record { frame = both.frame i; env = both.env i; cost = both.cost i }
-
 -- ---- other present values
-
--- elements that differ in their present values alone
-pub record IsSameElement (e f : ElementData) : Type 0 where
-  pub kind : e.kind ≡ f.kind
-  pub name : e.name ≡ f.name
-  pub params : e.params ≡ f.params
-  pub initial : e.initial ≡ f.initial
-
-pub kept_alike : (o p : Option Value) (e : ElementData) → IsSameElement (at_kept o e) (at_kept p e)
-kept_alike None None e = record { kind = refl; name = refl; params = refl; initial = refl }
-kept_alike None (Some w) e = record { kind = refl; name = refl; params = refl; initial = refl }
-kept_alike (Some v) None e = record { kind = refl; name = refl; params = refl; initial = refl }
-kept_alike (Some v) (Some w) e = record { kind = refl; name = refl; params = refl; initial = refl }
 
 -- where the name has one present value, the two are the same
 pub one_binding : (ui ui' : Map Value) (x : Name) {o p : Option Binding} → look_up x ui ≡ look_up x ui' → SameBinding ui ui' x o p → o ≡ p

@@ -1,7 +1,7 @@
 -- What a map has at a name after a change, and where a name stands among those of a cell.
 use Rattle.std.proofs.Common.{◌≡◌, Bool, true, false, cond, not, ⊎_elim, List, [], ◌∷◌, ◌++◌, Option, Some, None, refl, sym, ap, ◌∙◌, subst}
 use Rattle.std.specs.Str.{bytes_eq}
-use Rattle.std.proofs.lemmas.Bool.{and_from, cases_Bool, both_ways, or_cases, or_left, or_right, false_from_ne_true, not_from_false}
+use Rattle.std.proofs.lemmas.Bool.{and_from, cases_Bool, both_ways, or_cases, or_left, or_right, not_from_false}
 use Rattle.std.proofs.lemmas.List.Folds.{list_any-append}
 use Rattle.py_tree.specs.Names.{Name, is_among, is_local}
 use Rattle.py_tree.specs.Scope.{bound, read_names, is_free, defs, refs}
@@ -26,10 +26,6 @@ among_left x xs ys h = list_any-append _ xs ys ∙ or_left _ _ h
 
 pub among_right : (x : Name) (xs ys : List Name) → is_among x ys ≡ true → is_among x (xs ++ ys) ≡ true
 among_right x xs ys h = list_any-append _ xs ys ∙ or_right _ _ h
-
--- a name that is among them is another than one that isn't
-pub other_name : (x y : Name) (ys : List Name) → is_among x ys ≡ false → is_among y ys ≡ true → bytes_eq y x ≡ false
-other_name x y ys absent here = false_from_ne_true _ (λ same. both_ways _ absent (ap (λ z. is_among z ys) (sym (name_of y x same)) ∙ here))
 
 -- ---- what a map has at a name
 

@@ -9,7 +9,7 @@ use Rattle.py_value.specs.declared.types.Value.{Value}
 use Rattle.py_value.proofs.SortedMaps.{same_maps}
 use Rattle.run_meaning.specs.declared.binding.Binding.{Binding}
 use Rattle.frames.specs.declared.frame.CellFrame.{CellFrame}
-use Rattle.graph_meaning.specs.Graph.{defs_of, edge, is_in, order, is_ready, IsChain, NoneDoubled}
+use Rattle.graph_meaning.specs.Graph.{defs_of, edge, is_in, order, is_ready, IsPath, NoneDoubled}
 use Rattle.run_meaning.specs.Meaning.{Env}
 use Rattle.visit_meaning.specs.Runnable.{BindsDefined, MayRead, SameOutcome, itself, above, beside}
 use Rattle.visit_meaning.specs.Underway.{AncestorsFirst, IsBut, Leads, defined_in, frame_at}
@@ -33,10 +33,10 @@ closed_next nb done c closed ready a b e h = ⊎_elim
 
 -- so each cell that leads to one which is ready is listed
 ancestors_listed : (nb : List Cell) (done : List ℕ) (a : ℕ) (between : List ℕ) (c : ℕ) → IsClosed nb done → is_ready nb done c ≡ true
-    → IsChain nb (a ∷ between ++ c ∷ []) → is_in a done ≡ true
-ancestors_listed nb done a [] c closed ready chain = parent_listed nb done a c ready chain.0
-ancestors_listed nb done a (b ∷ between) c closed ready chain =
-    closed a b chain.0 (ancestors_listed nb done b between c closed ready chain.1)
+    → IsPath nb (a ∷ between ++ c ∷ []) → is_in a done ≡ true
+ancestors_listed nb done a [] c closed ready path = parent_listed nb done a c ready path.0
+ancestors_listed nb done a (b ∷ between) c closed ready path =
+    closed a b path.0 (ancestors_listed nb done b between c closed ready path.1)
 
 comes_first : (nb : List Cell) (done cs : List ℕ) → IsClosed nb done → ComesInOrder nb done cs → AncestorsFirst nb cs
 comes_first nb done [] closed comes = tt
@@ -76,17 +76,17 @@ definer_leads nb c x once d defined (beside a leads here apart) = subst (λ b. L
 
 -- a cell that leads to another is one of the notebook
 pub leads_below : (nb : List Cell) (a c : ℕ) → Leads nb a c → a < length nb
-leads_below nb a c ([], chain) = from_cell nb a c chain.0
-leads_below nb a c (b ∷ between, chain) = from_cell nb a b chain.0
+leads_below nb a c ([], path) = from_cell nb a c path.0
+leads_below nb a c (b ∷ between, path) = from_cell nb a b path.0
 
--- the last edge of a chain
-pub last_edge : (nb : List Cell) (a : ℕ) (between : List ℕ) (c : ℕ) → IsChain nb (a ∷ between ++ c ∷ [])
+-- the last edge of a path
+pub last_edge : (nb : List Cell) (a : ℕ) (between : List ℕ) (c : ℕ) → IsPath nb (a ∷ between ++ c ∷ [])
     → (edge nb a c ≡ true) ⊎ ((b : ℕ) × (edge nb b c ≡ true) × Leads nb a b)
-last_edge nb a [] c chain = inl chain.0
-last_edge nb a (b ∷ between) c chain = ⊎_elim
-    (λ edge. inr (b, edge, ([], (chain.0, tt))))
-    (λ last. inr (last.0, last.1, (b ∷ last.2.0, (chain.0, last.2.1))))
-    (last_edge nb b between c chain.1)
+last_edge nb a [] c path = inl path.0
+last_edge nb a (b ∷ between) c path = ⊎_elim
+    (λ edge. inr (b, edge, ([], (path.0, tt))))
+    (λ last. inr (last.0, last.1, (b ∷ last.2.0, (path.0, last.2.1))))
+    (last_edge nb b between c path.1)
 
 -- What a cell may read is defined by none from it on.
 reads_settled : (nb : List Cell) (c : ℕ) (cs : List ℕ) (x : Name) → NoneDoubled nb → AncestorsFirst nb (c ∷ cs) → MayRead nb c x

@@ -18,7 +18,7 @@ use Rattle.py_value.specs.declared.types.Value.{Value}
 use Rattle.py_value.specs.declared.types.Value.TheVariants as V
 use Rattle.py_value.proofs.Levels.{data_of-value_of}
 use Rattle.py_value.proofs.SortedMaps.{look_up-where_name}
-use Rattle.visit_meaning.specs.Answer.{State, Before, On, Message, Open, Set, Other, answer, answer_by, element_in, named_so, names_of, next, state_after, value_set, with_sets}
+use Rattle.visit_meaning.specs.Answer.{State, Before, On, Message, Open, Set, Other, answer, answer_by, element_in, named_so, names_of, present_after, state_after, value_set, with_sets}
 use Rattle.graph_meaning.specs.Graph.{elements_of, is_in}
 use Rattle.run_meaning.specs.Meaning.{Env}
 use Rattle.graph_meaning.specs.Reruns.{rerun}
@@ -101,7 +101,7 @@ module _ (nb : List Cell) (budget : ℕ) (ui sets : Map Value) (taken : AreTaken
   old = whole nb budget ui
 
   abbrev present : Map Value
-  present = next nb old.env ui sets
+  present = present_after nb old.env ui sets
 
   abbrev new : Progress
   new = whole nb budget present

@@ -15,7 +15,7 @@ use Rattle.py_value.specs.declared.types.Data.{Data}
 use Rattle.py_value.specs.declared.types.Value.{Value}
 use Rattle.py_value.specs.declared.types.Value.TheVariants as V
 use Rattle.py_value.proofs.Levels.{data_of-value_of}
-use Rattle.visit_meaning.specs.Answer.{element_in, named_so, names_of, next}
+use Rattle.visit_meaning.specs.Answer.{element_in, named_so, names_of, present_after}
 use Rattle.graph_meaning.specs.Graph.{defs_of, refs_of, elements_of, edge, is_in, parents, order}
 use Rattle.graph_meaning.specs.Reruns.{is_within, rerun}
 use Rattle.visit_meaning.specs.Rerun.{AllSet, laid_over}
@@ -33,7 +33,7 @@ use Rattle.visit_meaning.proofs.InBeing.{element_bound}
 use Rattle.visit_meaning.proofs.InOrder.{any_at, any_name, definer_below, one_definer, some_at}
 use Rattle.visit_meaning.proofs.OneByOne.{SameResult, definer_leads, first_filter, last_edge, leads_below, order_first, ran_reads, related_defined, same_result}
 use Rattle.graph_meaning.proofs.Orders.{free_is_listed, places_below}
-use Rattle.graph_meaning.proofs.Reaching.{is_kept, near_next, near_reader, passes}
+use Rattle.graph_meaning.proofs.Reachability.{is_kept, near_next, near_reader, passes}
 use Rattle.visit_meaning.proofs.SetValues.{laid_at, laid_by, laid_is, laid_passed, next_kept, set_there, sets_passed, sorted_laid}
 
 -- Values are set in a notebook that runs: no element is kept as a value, and each value that is set is admitted by its element.
@@ -96,7 +96,7 @@ module _ (nb : List Cell) (budget : ℕ) (ui sets : Map Value) (taken : AreTaken
   old = whole nb budget ui
 
   abbrev pub present : Map Value
-  present = next nb old.env ui sets
+  present = present_after nb old.env ui sets
 
   abbrev pub new : Progress
   new = whole nb budget present

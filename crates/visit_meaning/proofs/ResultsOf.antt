@@ -1,5 +1,5 @@
 -- The results of some cells of the whole, cell by cell.
-use Rattle.std.proofs.Common.{◌≡◌, ◌∙◌, refl, sym, ap, subst, ℕ, ◌+◌, Bool, true, false, cond, ◌&&◌, ◌||◌, ◌==◌, List, [], ◌∷◌, ◌++◌, length, map, filter, sum, Option, Some, ⊎_elim, length-append, arith}
+use Rattle.std.proofs.Common.{◌≡◌, ◌∙◌, refl, sym, ap, subst, ℕ, ◌+◌, Bool, true, false, cond, ◌&&◌, ◌||◌, ◌==◌, List, [], ◌∷◌, ◌++◌, length, filter, sum, Option, Some, ⊎_elim, length-append, arith}
 use Rattle.std.specs.Prelude.{flat_map, sum_by}
 use Rattle.std.proofs.lemmas.Bool.{cases_Bool, and_left, eq-eqb, eqb-true, false_from_ne_true, or_cases, or_from, or_left, or_parts, or_right, both_ways}
 use Rattle.std.proofs.lemmas.List.Sums.{sum_by-cons}
@@ -154,12 +154,6 @@ costs_in (f ∷ frames) [] long = absurd (omega arith)
 costs_in (f ∷ frames) (n ∷ costs) long =
     sum_by-cons (λ (p : Part). p.cost) (record { frame = frame.Cell f; cost = n }) (priced frames costs)
     ∙ ap (λ r. n + r) (costs_in frames costs (omega arith)) ∙ sym (sum_by-cons (λ x. x) n costs)
-
-frames_are : (frames : List CellFrame) (costs : List ℕ) → length costs ≡ length frames
-    → map (λ (p : Part). p.frame) (priced frames costs) ≡ map frame.Cell frames
-frames_are [] costs long = refl
-frames_are (f ∷ frames) [] long = absurd (omega arith)
-frames_are (f ∷ frames) (n ∷ costs) long = ap (λ fs. frame.Cell f ∷ fs) (frames_are frames costs (omega arith))
 
 -- ---- the whole
 

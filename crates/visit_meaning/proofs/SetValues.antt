@@ -16,7 +16,7 @@ use Rattle.py_value.specs.declared.types.Data.{Data}
 use Rattle.py_value.specs.declared.types.Value.{Value}
 use Rattle.py_value.specs.declared.types.Value.TheVariants as V
 use Rattle.py_value.proofs.SortedMaps.{look_up-put, look_up-put_other, look_up-where_on, name_of, sorted_put}
-use Rattle.visit_meaning.specs.Answer.{element_in, named_so, names_of, next, value_set, with_sets, with_value}
+use Rattle.visit_meaning.specs.Answer.{element_in, named_so, names_of, present_after, value_set, with_sets, with_value}
 use Rattle.graph_meaning.specs.Graph.{elements_of, is_in}
 use Rattle.run_meaning.specs.Meaning.{Env}
 use Rattle.graph_meaning.specs.Reruns.{rerun}
@@ -156,7 +156,7 @@ some_of f (c ∷ cs) x h = ⊎_elim
 -- a name keeps its present value where no cell that runs again creates an element of this name
 pub next_kept : (nb : List Cell) (env : Env) (ui sets : Map Value) (x : Name)
     → ((c : ℕ) → is_in c (rerun nb (names_of sets)) ≡ true → is_among x (elements_of nb c) ≡ false)
-    → look_up x (next nb env ui sets) ≡ look_up x (with_sets env sets ui)
+    → look_up x (present_after nb env ui sets) ≡ look_up x (with_sets env sets ui)
 next_kept nb env ui sets x none =
     let dropped : List Name = flat_map (elements_of nb) (rerun nb (names_of sets)) in
     let absent : is_among x dropped ≡ false = false_from_ne_true _
@@ -229,9 +229,3 @@ laid_one_by_one before (s ∷ sets) env like =
 -- Values that are laid over one after the other are admitted as they were before.
 pub laid_is : (sets : Map Value) (env : Env) → laid_over sets env ≡ laid_by env sets env
 laid_is sets env = laid_one_by_one env sets env (λ x. same_element (element_in env x))
-
-like_by : (before : Env) (sets : Map Value) (env : Env) → IsLike before env → IsLike before (laid_by before sets env)
-like_by before [] env like = like
-like_by before (s ∷ sets) env like =
-    like_by before sets (with_element s.0 (element_in before s.0) (value_set before s) env)
-    (like_laid before env s.0 (element_in before s.0) (value_set before s) refl like)

@@ -5,7 +5,7 @@ use Rattle.py_tree.specs.Trees.{Cell}
 use Rattle.py_tree.specs.Names.{Name}
 use Rattle.py_value.specs.Maps.{Map}
 use Rattle.py_value.specs.declared.types.Value.{Value}
-use Rattle.visit_meaning.specs.Answer.{On, Set, answer, answer_by, counted, element_in, names_of, next, refused, results_of, value_set}
+use Rattle.visit_meaning.specs.Answer.{On, Set, answer, answer_by, counted, element_in, names_of, present_after, refused, results_of, value_set}
 use Rattle.run_meaning.specs.Meaning.{Env}
 use Rattle.graph_meaning.specs.Reruns.{rerun}
 use Rattle.visit_meaning.specs.Rerun.{AllSet, IsAfresh, Kept, laid_over}
@@ -34,10 +34,10 @@ module _ {nb : List Cell} {budget : ℕ} {ui : Map Value} {kept : Kept} (at : Is
 
   -- Where each value is admitted, the cells that run again start from the kept bindings with the values laid over.
   pub sets_going : Runs nb → AllSet kept.env sets
-      → Going nb budget (next nb kept.env ui sets) (rerun nb (names_of sets)) (laid_over sets kept.env) kept.newest
+      → Going nb budget (present_after nb kept.env ui sets) (rerun nb (names_of sets)) (laid_over sets kept.env) kept.newest
   sets_going runs all =
       let taken : AreTaken nb budget ui sets = record { runs = runs; plain = at.plain; all = subst (λ e. AllSet e sets) at.env_is all } in
-      subst (λ e. Going nb budget (next nb e ui sets) (rerun nb (names_of sets)) (laid_over sets e) kept.newest) (sym at.env_is)
+      subst (λ e. Going nb budget (present_after nb e ui sets) (rerun nb (names_of sets)) (laid_over sets e) kept.newest) (sym at.env_is)
       (going_again nb budget ui sets taken kept.newest at.newest_is)
 
   -- Where a name is no element's, this is the answer, and nothing changes.
@@ -54,11 +54,11 @@ module _ {nb : List Cell} {budget : ℕ} {ui : Map Value} {kept : Kept} (at : Is
   pub answered : find (λ (s : Name × Value). is_none (element_in kept.env s.0)) sets ≡ None
       → find (λ (s : Name × Value). is_none (value_set kept.env s)) sets ≡ None
       → answer nb budget (On ui) (Set sets)
-      ≡ record { state = On (next nb kept.env ui sets); parts = counted (results_of nb budget (next nb kept.env ui sets) (rerun nb (names_of sets))) }
+      ≡ record { state = On (present_after nb kept.env ui sets); parts = counted (results_of nb budget (present_after nb kept.env ui sets) (rerun nb (names_of sets))) }
   answered there fit =
       subst (λ e. find (λ (s : Name × Value). is_none (element_in e s.0)) sets ≡ None
       → find (λ (s : Name × Value). is_none (value_set e s)) sets ≡ None
       → answer nb budget (On ui) (Set sets)
-      ≡ record { state = On (next nb e ui sets); parts = counted (results_of nb budget (next nb e ui sets) (rerun nb (names_of sets))) })
+      ≡ record { state = On (present_after nb e ui sets); parts = counted (results_of nb budget (present_after nb e ui sets) (rerun nb (names_of sets))) })
       (sym at.env_is)
       (λ k l i. answer_by nb budget old ui sets (k i) (l i)) there fit

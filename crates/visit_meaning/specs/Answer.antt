@@ -98,8 +98,8 @@ abbrev pub names_of : Map Value → List Name
 names_of sets = map (λ (s : Name × Value). s.0) sets
 
 -- The present values after values were set: those of elements that rerun cells create are dropped.
-abbrev pub next : List Cell → Env → Map Value → Map Value → Map Value
-next nb env ui sets =
+abbrev pub present_after : List Cell → Env → Map Value → Map Value → Map Value
+present_after nb env ui sets =
     where_name (λ x. not (is_among x (flat_map (elements_of nb) (rerun nb (names_of sets))))) (with_sets env sets ui)
 
 -- the answer to values that elements admit: the cells that run again, with the new present values
@@ -110,7 +110,7 @@ answer_with nb budget ui cells = record { state = On ui; parts = counted (result
 abbrev pub answer_by : List Cell → ℕ → Env → Map Value → Map Value → Option (Name × Value) → Option (Name × Value) → Answered
 answer_by nb budget env ui sets (Some s) unfit = refused (On ui) (frame.NoElement s.0)
 answer_by nb budget env ui sets None (Some s) = refused (On ui) (frame.NoValue s.0)
-answer_by nb budget env ui sets None None = answer_with nb budget (next nb env ui sets) (rerun nb (names_of sets))
+answer_by nb budget env ui sets None None = answer_with nb budget (present_after nb env ui sets) (rerun nb (names_of sets))
 
 abbrev pub answer_set : List Cell → ℕ → Env → Map Value → Map Value → Answered
 answer_set nb budget env ui sets =

@@ -7,7 +7,7 @@ use Rattle.py_value.specs.Maps.{Map, look_up, IsSortedMap}
 use Rattle.py_value.specs.declared.types.Value.{Value}
 use Rattle.py_value.specs.declared.types.Value.TheVariants as V
 use Rattle.frames.specs.declared.frame.CellFrame.{CellFrame}
-use Rattle.graph_meaning.specs.Graph.{defs_of, is_in, parents, IsChain}
+use Rattle.graph_meaning.specs.Graph.{defs_of, is_in, parents, IsPath}
 use Rattle.run_meaning.specs.Meaning.{Env}
 use Rattle.visit_meaning.specs.Whole.{Outcome, outcome_of, is_ok, whole}
 
@@ -24,9 +24,9 @@ HasNoElements ui = (x : Name) (v : Value) → look_up x ui ≡ Some v → is_ele
 
 -- ---- the cells that are left
 
--- a chain of edges leads from one cell to another
+-- a path of edges leads from one cell to another
 abbrev pub Leads : List Cell → ℕ → ℕ → Type 0
-Leads nb a c = (between : List ℕ) × IsChain nb (a ∷ between ++ c ∷ [])
+Leads nb a c = (between : List ℕ) × IsPath nb (a ∷ between ++ c ∷ [])
 
 -- no cell that leads to a cell is the cell itself or a later one, and each cell stands once
 abbrev pub AncestorsFirst : List Cell → List ℕ → Type 0

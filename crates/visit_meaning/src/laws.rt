@@ -10,7 +10,7 @@ ghost use Rattle.py_value.specs.Maps.{Map, look_up};
 ghost use Rattle.py_value.specs.View.{value_of as value_in};
 ghost use Rattle.py_value.specs.declared.types.Data.{Data};
 ghost use Rattle.py_value.specs.declared.types.Value.{Value};
-ghost use Rattle.visit_meaning.specs.Answer.{Before, On, Message, Set, answer, counted, element_in, names_of, next, state_after, value_set};
+ghost use Rattle.visit_meaning.specs.Answer.{Before, On, Message, Set, answer, counted, element_in, names_of, present_after, state_after, value_set};
 ghost use Rattle.visit_meaning.specs.Messages.{IsMessage};
 ghost use Rattle.visit_meaning.specs.Rerun.{AllSet, IsAfresh, Kept, after_cells, given_by, nothing_bound, with_values};
 ghost use Rattle.visit_meaning.specs.Runnable.{Runnable};
@@ -30,13 +30,13 @@ pub fn rerun_suffices()
     ensures kept { (nb : List Cell) → Runnable nb → NoneDoubled nb → NoneCyclic nb
         → (budget : ℕ) (ui sets : Map Value) (kept : Kept)
         → IsAfresh nb budget ui kept → AllSet kept.env sets
-        → let present : Map Value = next nb kept.env ui sets in
+        → let present : Map Value = present_after nb kept.env ui sets in
         IsAfresh nb budget present
         (after_cells nb budget present (rerun nb (names_of sets)) (with_values sets kept)) }
     ensures given { (nb : List Cell) → Runnable nb → NoneDoubled nb → NoneCyclic nb
         → (budget : ℕ) (ui sets : Map Value) (kept : Kept)
         → IsAfresh nb budget ui kept → AllSet kept.env sets
-        → let present : Map Value = next nb kept.env ui sets in
+        → let present : Map Value = present_after nb kept.env ui sets in
         answer nb budget (On ui) (Set sets) ≡ record {
           state = On present;
           parts = counted (given_by nb budget present (rerun nb (names_of sets)) (with_values sets kept));

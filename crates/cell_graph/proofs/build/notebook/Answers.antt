@@ -7,7 +7,7 @@ use Rattle.py_tree.specs.Trees.{Cell}
 use Rattle.py_tree.specs.View.{view_cell, view_cells}
 use Rattle.graph_meaning.specs.Graph.{order}
 use Rattle.graph_meaning.proofs.Orders.{full_is_free}
-use Rattle.cell_graph.specs.Counts.{AreWithin, AreTurned}
+use Rattle.cell_graph.specs.Counts.{AreWithin, IsTranspose}
 use Rattle.cell_graph.specs.Tables.{AreDefs, AreRefs}
 use Rattle.cell_graph.specs.Places.{ArePlaced}
 use Rattle.cell_graph.specs.Readers.{HasReaders}
@@ -93,8 +93,8 @@ invariant_of-result c =
     let size = length-map c.args.cells.items view_cell in
     let full : length (order nb) ≡ length nb = omega (arith, ap length ordered, order_fits nb) in
     let free = full_is_free nb full in
-    let turned : AreTurned c.in_ok-parents.parents.items c.in_ok-children.children.items =
-    subst (λ (ls : List (List ℕ)). AreTurned ls c.in_ok-children.children.items) c.as_slice-5.ensures.value c.in_ok-children.ensures in
+    let turned : IsTranspose c.in_ok-parents.parents.items c.in_ok-children.children.items =
+    subst (λ (ls : List (List ℕ)). IsTranspose ls c.in_ok-children.children.items) c.as_slice-5.ensures.value c.in_ok-children.ensures in
     let seats : List ℕ = c.in_ok-places.places.items in
     let same : c.as_slice-9.result.now ≡ order nb = c.as_slice-9.ensures.value ∙ ordered in
     let count : length seats ≡ length (order nb) = c.in_ok-places.ensures.count ∙ ap (λ (cs : List ℕ). length cs) same in

@@ -3,7 +3,7 @@ use Rattle.std.proofs.Common.{length}
 use Rattle.graph_meaning.specs.Graph.{order}
 use Rattle.graph_meaning.specs.Reruns.{is_within}
 use Rattle.graph_meaning.proofs.Orders.{free_is_listed}
-use Rattle.graph_meaning.proofs.Reaching as reaching
+use Rattle.graph_meaning.proofs.Reachability as reaching
 use Rattle.graph_meaning.proofs.laws.what_runs_again.Goals as goal
 
 pub returns-clause-reached : goal.returns-clause-reached

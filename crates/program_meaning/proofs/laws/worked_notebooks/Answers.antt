@@ -2,7 +2,7 @@
 use Rattle.std.proofs.Common.{◌≡◌, ℕ, zero, suc, ◌<◌, ◌≤◌, ◌==◌, true, false, ⊎_elim, List, [], ◌∷◌, ◌++◌, None, refl, subst, arith, lit≤}
 use Rattle.std.proofs.lemmas.Bool.{both_ways, eqb-true, or_cases}
 use Rattle.std.specs.Fmt.{digits}
-use Rattle.graph_meaning.specs.Graph.{edge, is_in, IsChain, LiesOnCycle, name_again, NoneDoubled}
+use Rattle.graph_meaning.specs.Graph.{edge, is_in, IsPath, LiesOnCycle, name_again, NoneDoubled}
 use Rattle.program_meaning.specs.Samples.{three_cells, doubled, cyclic}
 use Rattle.run_meaning.specs.Spending.{pay, show}
 use Rattle.graph_meaning.proofs.Orders.{full_is_free, from_cell}
@@ -56,7 +56,7 @@ pub returns-clause-cycle_line : goal.returns-clause-cycle_line
 unfolding digits
 returns-clause-cycle_line c = refl
 
--- no edge leads from the last cell on, so no chain does
+-- no edge leads from the last cell on, so no path does
 none_from_last : (c : ℕ) → edge cyclic 3 c ≡ false
 none_from_last zero = refl
 none_from_last (suc zero) = refl
@@ -64,9 +64,9 @@ none_from_last (suc (suc zero)) = refl
 none_from_last (suc (suc (suc zero))) = refl
 none_from_last (suc (suc (suc (suc c)))) = refl
 
-none_on : (between : List ℕ) (c : ℕ) → IsChain cyclic (3 ∷ between ++ c ∷ []) → ⊥
-none_on [] c chain = both_ways _ (none_from_last c) chain.0
-none_on (d ∷ ds) c chain = both_ways _ (none_from_last d) chain.0
+none_on : (between : List ℕ) (c : ℕ) → IsPath cyclic (3 ∷ between ++ c ∷ []) → ⊥
+none_on [] c path = both_ways _ (none_from_last c) path.0
+none_on (d ∷ ds) c path = both_ways _ (none_from_last d) path.0
 
 none_doubled_cyclic : NoneDoubled cyclic
 none_doubled_cyclic zero = refl
@@ -100,9 +100,9 @@ on_cycle c h = ⊎_elim
 none_from_past : (c d : ℕ) → 4 ≤ c → edge cyclic c d ≡ true → ⊥
 none_from_past c d past h = let below : c < 4 = from_cell cyclic c d h in omega arith
 
-none_on_past : (between : List ℕ) (c d : ℕ) → 4 ≤ c → IsChain cyclic (c ∷ between ++ d ∷ []) → ⊥
-none_on_past [] c d past chain = none_from_past c d past chain.0
-none_on_past (e ∷ es) c d past chain = none_from_past c e past chain.0
+none_on_past : (between : List ℕ) (c d : ℕ) → 4 ≤ c → IsPath cyclic (c ∷ between ++ d ∷ []) → ⊥
+none_on_past [] c d past path = none_from_past c d past path.0
+none_on_past (e ∷ es) c d past path = none_from_past c e past path.0
 
 only_on : (c : ℕ) → LiesOnCycle cyclic c → is_in c (0 ∷ 1 ∷ 2 ∷ []) ≡ true
 only_on zero cycle = refl

@@ -5,7 +5,7 @@ use Rattle.py_tree.specs.Levels.{is_levelled}
 use Rattle.py_tree.specs.Trees.{name, sum, attribute}
 use Rattle.py_tree.specs.View.{view}
 use Rattle.py_eval.proofs.Sequence.{exit, onward, paid}
-use Rattle.py_eval.proofs.Sums.{is_sum, is_attribute, is_attribute_of_name, right_levelled}
+use Rattle.py_eval.proofs.TreeViews.{is_sum, is_attribute, is_attribute_of_name, right_levelled}
 use Rattle.py_eval.proofs.eval.+eval.Goals as goal
 
 pub returns-in_err-x-in-Sum-clause-meets : goal.returns-in_err-x-in-Sum-clause-meets

@@ -1,7 +1,7 @@
 -- An expression more.
 use Rattle.std.proofs.Common.{refl, arith}
 use Rattle.py_eval.proofs.Sequence.{exit, onward}
-use Rattle.py_eval.proofs.Sums.{place_tree, rest_trees}
+use Rattle.py_eval.proofs.TreeViews.{place_tree, rest_trees}
 use Rattle.py_eval.proofs.eval.eval_all.Goals as goal
 
 pub returns-in_err-eval-clause-meets : goal.returns-in_err-eval-clause-meets

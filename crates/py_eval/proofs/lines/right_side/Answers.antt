@@ -1,5 +1,5 @@
 -- The arguments of a call that is spelled well.
-use Rattle.py_eval.proofs.Sums.{is_call, arguments_levelled}
+use Rattle.py_eval.proofs.TreeViews.{is_call, arguments_levelled}
 use Rattle.py_eval.proofs.lines.right_side.Goals as goal
 
 pub call_value-requires : goal.call_value-requires

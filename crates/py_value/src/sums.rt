@@ -1,4 +1,4 @@
-// Sums.
+// Sums, and the numbers that values count as.
 ghost use Rattle.std.specs.Prelude.{◌≡◌};
 ghost use Rattle.py_value.specs.Whole.{sum_of, number_of, joining_fault, bit};
 

@@ -1,4 +1,4 @@
--- Values that no element needs memory for.
+-- Numbers and truth values, for which no element needs memory.
 use Rattle.py_value.specs.declared.types.Value.{Value}
 use Rattle.py_value.specs.declared.types.Value.TheVariants as V
 

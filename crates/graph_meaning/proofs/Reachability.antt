@@ -1,4 +1,4 @@
--- The cells within as many edges as there are cells are those to which chains lead.
+-- The cells within as many edges as there are cells are those to which paths lead.
 use Rattle.std.proofs.Common.{◌≡◌, ℕ, zero, suc, ◌<◌, Bool, true, false, cond, ◌==◌, eqb, ◌⊎◌, inl, inr, ⊎_elim, List, [], ◌∷◌, ◌++◌, length, filter, refl, sym, ap, ◌∙◌, subst, arith}
 use Rattle.std.specs.List.{list_any, AllByRecursion, IsDistinct}
 use Rattle.std.specs.Cmp.{nat_eq_equiv}
@@ -8,7 +8,7 @@ use Rattle.std.proofs.lemmas.Map.Keys.{IsDistinct-push}
 use Rattle.std.proofs.lemmas.Map.Steps.{length-le_from_distinct_below}
 use Rattle.py_tree.specs.Names.{Name}
 use Rattle.py_tree.specs.Trees.{Cell}
-use Rattle.graph_meaning.specs.Graph.{edge, all_cells, is_in, parents, order, IsChain}
+use Rattle.graph_meaning.specs.Graph.{edge, all_cells, is_in, parents, order, IsPath}
 use Rattle.graph_meaning.specs.Reruns.{reads_one, is_within, rerun, IsReached, itself, behind}
 use Rattle.graph_meaning.proofs.Orders.{same_test, in_more_cases, from_cell, to_cell, is_cell_number, places_distinct}
 
@@ -189,16 +189,16 @@ module _ (nb : List Cell) (names : List Name) where
   pub near_next : (a b : ℕ) → edge nb a b ≡ true → near (length nb) a ≡ true → near (length nb) b ≡ true
   near_next a b e h = still b (to_cell nb a b e) (near_by (length nb) a b e h)
 
-  -- ---- chains
+  -- ---- paths
 
-  chain_more : (a : ℕ) (between : List ℕ) (b c : ℕ) → IsChain nb (a ∷ between ++ b ∷ []) → edge nb b c ≡ true
-      → IsChain nb (a ∷ (between ++ b ∷ []) ++ c ∷ [])
-  chain_more a [] b c chain e = (chain.0, (e, tt))
-  chain_more a (d ∷ ds) b c chain e = (chain.0, chain_more d ds b c chain.1 e)
+  path_more : (a : ℕ) (between : List ℕ) (b c : ℕ) → IsPath nb (a ∷ between ++ b ∷ []) → edge nb b c ≡ true
+      → IsPath nb (a ∷ (between ++ b ∷ []) ++ c ∷ [])
+  path_more a [] b c path e = (path.0, (e, tt))
+  path_more a (d ∷ ds) b c path e = (path.0, path_more d ds b c path.1 e)
 
   reached_next : (b c : ℕ) → edge nb b c ≡ true → IsReached nb names b → IsReached nb names c
   reached_next b c e (itself reads) = behind b [] reads (e, tt)
-  reached_next b c e (behind first between reads chain) = behind first (between ++ b ∷ []) reads (chain_more first between b c chain e)
+  reached_next b c e (behind first between reads path) = behind first (between ++ b ∷ []) reads (path_more first between b c path e)
 
   pub reached : (k c : ℕ) → near k c ≡ true → IsReached nb names c
   reached zero c h = itself h
@@ -207,13 +207,13 @@ module _ (nb : List Cell) (names : List Name) where
       (λ after. reached_next after.0 c after.1 (reached k after.0 after.2))
       (near_cases k c h)
 
-  along : (a : ℕ) (between : List ℕ) (c : ℕ) → near (length nb) a ≡ true → IsChain nb (a ∷ between ++ c ∷ []) → near (length nb) c ≡ true
-  along a [] c h chain = near_next a c chain.0 h
-  along a (b ∷ bs) c h chain = along b bs c (near_next a b chain.0 h) chain.1
+  along : (a : ℕ) (between : List ℕ) (c : ℕ) → near (length nb) a ≡ true → IsPath nb (a ∷ between ++ c ∷ []) → near (length nb) c ≡ true
+  along a [] c h path = near_next a c path.0 h
+  along a (b ∷ bs) c h path = along b bs c (near_next a b path.0 h) path.1
 
   pub near_reached : (c : ℕ) → IsReached nb names c → near (length nb) c ≡ true
   near_reached c (itself reads) = near_reader (length nb) c reads
-  near_reached c (behind first between reads chain) = along first between c (near_reader (length nb) first reads) chain
+  near_reached c (behind first between reads path) = along first between c (near_reader (length nb) first reads) path
 
   pub runs_once : IsDistinct eqb (rerun nb names)
   runs_once = once_kept (near (length nb)) (order nb) (places_distinct nb (length nb))

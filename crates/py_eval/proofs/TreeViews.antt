@@ -1,6 +1,7 @@
 -- What trees of the code are, and that their parts are spelled well where they are.
 use Rattle.std.proofs.Common.{◌≡◌, ◌<◌, ◌+◌, ◌∙◌, ap, sym, refl, IsTrue, ◌&&◌, subst, ℕ, suc, List, ◌∷◌, length, drop, get_or, add-one}
 use Rattle.std.proofs.Math.Seq.{drop-cons}
+use Rattle.std.proofs.lemmas.Bool.{and_parts}
 use Rattle.std.specs.Prelude.{nat_lt}
 use denote.Hole.Carrier.{roll}
 use Rattle.py_tree.specs.declared.tree.Expr.{Expr, roll-Expr, fold-roll-Expr}
@@ -11,7 +12,6 @@ use Rattle.py_tree.specs.Levels.{is_levelled, are_levelled_trees, level}
 use Rattle.py_tree.specs.Names.{Name}
 use Rattle.py_tree.specs.Trees.{Tree, Trees, more, name, sum, attribute, call}
 use Rattle.py_tree.specs.View.{view, views, view_step}
-use Rattle.py_eval.proofs.Conjunctions.{and_right}
 
 view_sum : (a b : Expr) → view (Sum a b) ≡ sum (view a) (view b)
 unfolding roll-Expr roll
@@ -24,7 +24,7 @@ is_sum e a b a' b' is left right = ap view is ∙ view_sum a b ∙ λ i. sum (vi
 -- the right side of a sum that is spelled well
 pub right_levelled : (e a b b' : Expr) → b' ≡ b → e ≡ Sum a b → IsTrue (is_levelled (view e)) → IsTrue (is_levelled (view b'))
 right_levelled e a b b' right is h =
-    and_right (is_levelled (view a) && nat_lt 6 (level (view b'))) (is_levelled (view b')) (subst (λ t. IsTrue (is_levelled t)) (is_sum e a b a b' is refl right) h)
+    (and_parts (is_levelled (view a) && nat_lt 6 (level (view b'))) (is_levelled (view b')) (subst (λ t. IsTrue (is_levelled t)) (is_sum e a b a b' is refl right) h)).1
 
 view_attribute : (a : Expr) (x : Name) → view (Attribute a x) ≡ attribute (view a) x
 unfolding roll-Expr roll
@@ -54,7 +54,7 @@ is_call e a a' es es' is callee args = ap view is ∙ view_call a es ∙ λ i. c
 -- the arguments of a call that is spelled well
 pub arguments_levelled : (t : Tree) (callee : Tree) (args : Trees) → t ≡ call callee args → IsTrue (is_levelled t) → IsTrue (are_levelled_trees args)
 arguments_levelled t callee args is h =
-    and_right (is_levelled callee && nat_lt 9 (level callee)) (are_levelled_trees args) (subst (λ t. IsTrue (is_levelled t)) is h)
+    (and_parts (is_levelled callee && nat_lt 9 (level callee)) (are_levelled_trees args) (subst (λ t. IsTrue (is_levelled t)) is h)).1
 
 -- what is left of expressions begins with the next one
 pub place_tree : (es : List Expr) (i : ℕ) (e : Expr) → i < length es → e ≡ get_or es i e → views (drop i es) ≡ more (view e) (views (drop (i + 1) es))
@@ -62,4 +62,4 @@ place_tree es i e lt is = ap views (drop-cons es i e lt ∙ (λ j. sym is j ∷ 
 
 module _ (ts rest : Trees) (t : Tree) (is : ts ≡ more t rest) where
   pub rest_trees : IsTrue (are_levelled_trees ts) → IsTrue (are_levelled_trees rest)
-  rest_trees h = and_right (is_levelled t) (are_levelled_trees rest) (subst (λ ts. IsTrue (are_levelled_trees ts)) is h)
+  rest_trees h = (and_parts (is_levelled t) (are_levelled_trees rest) (subst (λ ts. IsTrue (are_levelled_trees ts)) is h)).1

@@ -1,4 +1,4 @@
--- Why parameters can't be had.
+-- Why there are no parameters: want of memory, or arguments that don't fit.
 use Rattle.std.specs.Prelude.{◌≡◌, ◌⊎◌, Option, None}
 use Rattle.py_value.specs.declared.op_fault.OpFault.{OpFault}
 use Rattle.py_value.specs.declared.op_fault.OpFault.TheVariants as fault
