@@ -27,6 +27,3 @@ pub use cell_list::CellList;
 pub use cell_names::{defs, refs};
 pub use fault::GraphFault;
 pub use graph::Notebook;
-
-#[cfg(test)]
-mod tests;

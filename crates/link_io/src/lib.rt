@@ -7,8 +7,6 @@ mod mem_sink;
 mod real_files;
 mod real_out;
 mod sink;
-#[cfg(test)]
-mod tests;
 mod whole_file;
 mod whole_text;
 

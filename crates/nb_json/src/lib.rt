@@ -3,7 +3,5 @@
 
 mod frame_json;
 mod json_text;
-#[cfg(test)]
-mod tests;
 
 pub use frame_json::push_frame;

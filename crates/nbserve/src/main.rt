@@ -7,8 +7,6 @@ ghost use Rattle.nbserve.specs.Process.{AnswersFor, EndsWith};
 
 mod command;
 mod command_fault;
-#[cfg(test)]
-mod kernel_tests;
 pub mod laws;
 mod loader;
 mod refusal;

@@ -13,6 +13,3 @@ pub use run::{End, Ran, run_block};
 pub use scene::{Env, Scene};
 pub use steps::Steps;
 pub use ui_elements::Present;
-
-#[cfg(test)]
-mod tests;

@@ -18,8 +18,6 @@ mod repr;
 mod sameness;
 mod sizes;
 mod sums;
-#[cfg(test)]
-mod tests;
 mod texts;
 mod types;
 

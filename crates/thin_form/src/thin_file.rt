@@ -69,6 +69,3 @@ pub fn thin(alloc: Global, bytes: &[u8]) -> Result<Vec<CellCode>, ThinFault>
     }
     Ok(cells)
 }
-
-#[cfg(test)]
-mod tests;

@@ -10,8 +10,6 @@ mod parameters;
 mod params;
 mod present;
 mod ranges;
-#[cfg(test)]
-mod tests;
 mod text;
 mod words;
 

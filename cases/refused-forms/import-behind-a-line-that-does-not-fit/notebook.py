@@ -1,0 +1,11 @@
+import marimo
+app = marimo.App()
+@app.cell
+def _():
+    s = mo.ui.slider(0, 10)
+x
+@app.cell
+def _():
+    import marimo as mo
+if __name__ == "__main__":
+    app.run()

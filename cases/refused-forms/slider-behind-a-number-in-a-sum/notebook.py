@@ -1,0 +1,13 @@
+import marimo
+app = marimo.App()
+@app.cell
+def _():
+    import marimo as mo
+@app.cell
+def _():
+    s = mo.ui.slider(0, 10)
+@app.cell
+def _():
+    1 + s
+if __name__ == "__main__":
+    app.run()

@@ -1,0 +1,15 @@
+import marimo
+app = marimo.App()
+@app.cell
+def _():
+    import marimo as mo
+@app.cell
+def _():
+    s.value
+ÿ
+    ÿ
+@app.cell
+def _():
+    s = mo.ui.slider(0, 10)
+if __name__ == "__main__":
+    app.run()

@@ -1,0 +1,10 @@
+import marimo
+app = marimo.App()
+@app.cell
+def _():
+    s.value
+@app.cell
+def _():
+    s = mo.ui.slider(0, 10)
+if __name__ == "__main__":
+    app.run()

@@ -1,0 +1,22 @@
+//! The tests that are proved functions: of what no contract says and no run of the program shows. Each file tests one subject, by
+//! the public functions of the crates below.
+#![tactic(auto)]
+
+#[cfg(test)]
+mod blocks;
+#[cfg(test)]
+mod files;
+#[cfg(test)]
+mod frame_texts;
+#[cfg(test)]
+mod graphs;
+#[cfg(test)]
+mod sliders;
+#[cfg(test)]
+mod trees;
+#[cfg(test)]
+mod value_texts;
+#[cfg(test)]
+mod values;
+#[cfg(test)]
+mod visits;

@@ -1,5 +1,0 @@
--- The steps are counted in the blank ledger that is given.
-use Rattle.py_eval.proofs.tests.run_sample.Given as goal
-
-abbrev pub ghosts-run : goal.ghosts-run
-ghosts-run a = record { name = a.blank.name; parts = a.blank.parts }
