@@ -19,6 +19,36 @@ pub loop-message-init : goal.loop-message-init
 loop-message-init g c =
     (omega arith, ([], played_new c.args.notebook.now c.args.budget c.args.steps.now c.in_ok-kernel.kernel c.in_ok-kernel.ensures, took_none _))
 
+pub loop-message-preserved : goal.loop-message-preserved
+loop-message-preserved g c =
+    let so_far = c.loop-message.invariant.1 in
+    let w = c.deliver.new.self in (
+      omega (arith, c.loop-message.invariant.0, c.in_ok-drain.ensures.later),
+      (
+        so_far.0 ++ w.pending,
+        played_message c.args.messages.now c.loop-message.message-index c.in_ok-_taken._taken w c.drain.new.kernel c.drain.new.steps
+            c.loop-message-test.true so_far.1 c.in_ok-_taken.ensures.delivers
+            (record {
+              steps = c.in_ok-drain.ensures.steps;
+              over = c.in_ok-drain.ensures.over;
+              state = c.in_ok-drain.ensures.state;
+              nb = c.in_ok-drain.ensures.nb;
+              budget = c.in_ok-drain.ensures.budget;
+            }),
+        took_lines c.args.label.now so_far.0 w.pending _ _ _ so_far.2 c.in_ok-drain.ensures.written,
+      ),
+    )
+
+pub returns-clause-written : goal.returns-clause-written
+returns-clause-written g c = λ ms are.
+    let so_far = c.loop-message.invariant.1 in
+    let all = played_all c.args.messages.now c.loop-message.message-index c.loop-message-test.false so_far.1 ms are in
+    subst (λ parts. Took (g.O.Sink.taken c.args.out.now) (g.O.Sink.taken c.loop-message.out) (lines_of c.args.label.now parts)) all.0 so_far.2
+
+pub returns-clause-steps : goal.returns-clause-steps
+returns-clause-steps g c = λ ms are.
+    (played_all c.args.messages.now c.loop-message.message-index c.loop-message-test.false c.loop-message.invariant.1.1 ms are).1
+
 pub returns-in_err-kernel-clause-prefix : goal.returns-in_err-kernel-clause-prefix
 returns-in_err-kernel-clause-prefix g c =
     let Prefix : Type 0 = (ms : List Message) → AreMessages (map (λ m. m.now) c.args.messages.now) ms
@@ -67,33 +97,3 @@ returns-in_err-drain-clause-prefix g c =
     (λ memory ms are.
     let begins = played_begins c.args.messages.now (i + 1) next ms are in
     prefix_behind so_far.0 w.pending begins.0 _ _ _ _ _ begins.1 so_far.2 so_far.1.steps (c.in_err-drain.ensures.prefix memory))
-
-pub loop-message-preserved : goal.loop-message-preserved
-loop-message-preserved g c =
-    let so_far = c.loop-message.invariant.1 in
-    let w = c.deliver.new.self in (
-      omega (arith, c.loop-message.invariant.0, c.in_ok-drain.ensures.later),
-      (
-        so_far.0 ++ w.pending,
-        played_message c.args.messages.now c.loop-message.message-index c.in_ok-_taken._taken w c.drain.new.kernel c.drain.new.steps
-            c.loop-message-test.true so_far.1 c.in_ok-_taken.ensures.delivers
-            (record {
-              steps = c.in_ok-drain.ensures.steps;
-              over = c.in_ok-drain.ensures.over;
-              state = c.in_ok-drain.ensures.state;
-              nb = c.in_ok-drain.ensures.nb;
-              budget = c.in_ok-drain.ensures.budget;
-            }),
-        took_lines c.args.label.now so_far.0 w.pending _ _ _ so_far.2 c.in_ok-drain.ensures.written,
-      ),
-    )
-
-pub returns-clause-written : goal.returns-clause-written
-returns-clause-written g c = λ ms are.
-    let so_far = c.loop-message.invariant.1 in
-    let all = played_all c.args.messages.now c.loop-message.message-index c.loop-message-test.false so_far.1 ms are in
-    subst (λ parts. Took (g.O.Sink.taken c.args.out.now) (g.O.Sink.taken c.loop-message.out) (lines_of c.args.label.now parts)) all.0 so_far.2
-
-pub returns-clause-steps : goal.returns-clause-steps
-returns-clause-steps g c = λ ms are.
-    (played_all c.args.messages.now c.loop-message.message-index c.loop-message-test.false c.loop-message.invariant.1.1 ms are).1
