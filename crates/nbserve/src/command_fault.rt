@@ -1,5 +1,5 @@
 // Why a command isn't carried out, and what is written then.
-ghost use Rattle.std.specs.Prelude.{◌≡◌};
+ghost use Rattle.std.specs.Prelude.{◌≡◌, ◌≤◌};
 ghost use Rattle.link_io.specs.Outside.{Rose};
 ghost use Rattle.nbserve.specs.Refusal.{refusal_of};
 ghost use Rattle.nbserve.specs.CommandFault.{status_of, stop_line};
@@ -61,8 +61,9 @@ impl From<ScriptFault> for CommandFault {
 
 /// Writes the text of a status, and answers the status, or that the text couldn't be written.
 pub fn end_with<O: Sink>(out: &mut O, text: &[u8], status: u8) -> u8
-    ensures { Ended status text.now result (O.taken out.old) (O.taken out.new)
+    ensures ended { Ended status text.now result (O.taken out.old) (O.taken out.new)
         (Rose (O.faults out.old) (O.faults out.new)) }
+    ensures writes_later { O.faults out.old ≤ O.faults out.new }
 {
     match write_all(out, text) {
         Ok(()) => status,
@@ -72,9 +73,10 @@ pub fn end_with<O: Sink>(out: &mut O, text: &[u8], status: u8) -> u8
 
 // Writes why a notebook is refused.
 fn refuse<O: Sink>(alloc: Global, why: &Refusal, out: &mut O) -> u8
-    ensures { Ended 1 (program.refusal_text (refusal_of why.now)) result (O.taken out.old)
+    ensures ended { Ended 1 (program.refusal_text (refusal_of why.now)) result (O.taken out.old)
         (O.taken out.new)
         (Rose (O.faults out.old) (O.faults out.new)) }
+    ensures writes_later { O.faults out.old ≤ O.faults out.new }
 {
     match refusal_text(alloc, why) {
         Ok(text) => end_with(out, text.as_bytes(), REFUSED),
@@ -84,8 +86,9 @@ fn refuse<O: Sink>(alloc: Global, why: &Refusal, out: &mut O) -> u8
 
 // Writes at which line bytes are no script.
 fn refuse_script<O: Sink>(alloc: Global, line: u32, out: &mut O) -> u8
-    ensures { Ended 6 (scripts.fault_text line) result (O.taken out.old) (O.taken out.new)
+    ensures ended { Ended 6 (scripts.fault_text line) result (O.taken out.old) (O.taken out.new)
         (Rose (O.faults out.old) (O.faults out.new)) }
+    ensures writes_later { O.faults out.old ≤ O.faults out.new }
 {
     match format!(in alloc; "script {line}\n") {
         Ok(text) => end_with(out, text.as_bytes(), NO_SCRIPT),
@@ -99,6 +102,7 @@ pub fn end_stopped<O: Sink>(alloc: Global, stop: &CommandFault, out: &mut O) -> 
         (O.taken out.new)
         (Rose (O.faults out.old) (O.faults out.new)) }
     ensures wanting { stop.now ≡ CommandFault.Memory → (result ≡ 5) × (out.new ≡ out.old) }
+    ensures writes_later { O.faults out.old ≤ O.faults out.new }
 {
     match stop {
         CommandFault::Usage => end_with(out, b"usage\n", USAGE),

@@ -78,10 +78,11 @@ fn perform<O: Sink, L: Ledger>(
     steps: &mut Steps<L>,
 ) -> u8
     requires { Runnable (view_cells notebook.now) }
-    ensures { (ms : List Message) → AreMessages (map (λ m. m.now) messages.now) ms
+    ensures done { (ms : List Message) → AreMessages (map (λ m. m.now) messages.now) ms
         → IsDone (view_cells notebook.now) ms label.now last.now result
         (O.taken out.old) (O.taken out.new)
         (Rose (O.faults out.old) (O.faults out.new)) steps.old steps.new }
+    ensures writes_later { O.faults out.old ≤ O.faults out.new }
 {
     match play(alloc, notebook, USUAL_BUDGET, label, messages, out, steps) {
         Ok(()) => end_with(out, last, DONE),
@@ -111,6 +112,7 @@ fn perform_script<F: Files, O: Sink, L: Ledger>(
     ensures still { OnErr result (steps.new ≡ steps.old) }
     ensures same { (other : List ℕ) → F.holds files.new other ≡ F.holds files.old other }
     ensures later { F.faults files.old ≤ F.faults files.new }
+    ensures writes_later { O.faults out.old ≤ O.faults out.new }
 {
     let bytes = bytes_in(alloc, files, file)?;
     let messages = read_script(alloc, bytes.as_slice())?;
@@ -146,6 +148,7 @@ fn carry_out<F: Files, O: Sink, L: Ledger>(
     ensures still { OnErr result (steps.new ≡ steps.old) }
     ensures same { (other : List ℕ) → F.holds files.new other ≡ F.holds files.old other }
     ensures later { F.faults files.old ≤ F.faults files.new }
+    ensures writes_later { O.faults out.old ≤ O.faults out.new }
 {
     let Some(command) = read_command(words) else {
         return Err(CommandFault::Usage);
@@ -181,9 +184,10 @@ pub fn run_words<F: Files, O: Sink, L: Ledger>(
         (Rose (O.faults out.old) (O.faults out.new))
         (map string_bytes words.now) result (O.taken out.old) (O.taken out.new) steps.old steps.new }
 
-    // What names of files stand for stays, and the count of read faults doesn't fall. Words that are no form touch no file.
+    // What names of files stand for stays, and no count of faults falls. Words that are no form touch no file.
     ensures same { (other : List ℕ) → F.holds files.new other ≡ F.holds files.old other }
     ensures later { F.faults files.old ≤ F.faults files.new }
+    ensures writes_later { O.faults out.old ≤ O.faults out.new }
     ensures untouched { command_of (map string_bytes words.now) ≡ None → files.new ≡ files.old }
 
     // All below follows from these. A status is one of seven.

@@ -40,7 +40,7 @@ returns-in-Once-clause-carried g c =
     carried.opened file nb (sym c.in-Some.ensures ∙ ap (λ command. Some (asked command)) c.in-Once.is)
     (subst (λ name. IsLoaded (g.F.Files.holds c.args.files.now) name nb) (c.notebook.ensures ∙ ap (λ command. notebook_of (asked command)) c.in-Once.is)
     c.in_ok-notebook.ensures.loaded)
-    (c.perform.ensures (Open ∷ []) (c.as_bytes.ensures.value, tt))
+    (c.perform.ensures.done (Open ∷ []) (c.as_bytes.ensures.value, tt))
 
 pub returns-clause-carried : goal.returns-clause-carried
 returns-clause-carried g c =

@@ -14,6 +14,6 @@ returns-clause-played g c =
       said = said.0;
       read = subst (AreRead (g.F.Files.holds c.args.files.now) c.args.file.now) (sym c.as_slice.ensures.value) c.in_ok-bytes.ensures.read;
       is = said.1;
-      done = c.perform.ensures (messages_of said.0)
+      done = c.perform.ensures.done (messages_of said.0)
           (subst (λ texts. AreMessages (map (λ (m : Bor (List ℕ)). m.now) texts) (messages_of said.0)) (sym c.as_slice-2.ensures.value) said.2);
     }

@@ -1,5 +1,5 @@
 -- All that is claimed of the status follows from what the run comes to.
-use Rattle.std.proofs.Common.{◌≡◌, [], map, subst, sym}
+use Rattle.std.proofs.Common.{◌≡◌, [], arith, map, subst, sym}
 use Rattle.std.specs.Prelude.{string_bytes}
 use Rattle.link_io.specs.Outside.{Rose, Took}
 use Rattle.link_io.proofs.Taken.{took_none}
@@ -18,6 +18,7 @@ returns-in-Ok g c =
       runs = runs;
       same = c.carry_out.ensures.same;
       later = c.carry_out.ensures.later;
+      writes_later = c.carry_out.ensures.writes_later;
       untouched = c.carry_out.ensures.untouched;
       range = runs_range _ _ _ _ _ _ _ _ _ runs;
       read = runs_read _ _ _ _ _ _ _ _ _ runs;
@@ -51,6 +52,7 @@ returns-in-Err g c =
       runs = runs;
       same = c.carry_out.ensures.same;
       later = c.carry_out.ensures.later;
+      writes_later = omega (arith, c.carry_out.ensures.writes_later, c.end_stopped.ensures.writes_later);
       untouched = c.carry_out.ensures.untouched;
       range = runs_range _ _ _ _ _ _ _ _ _ runs;
       read = runs_read _ _ _ _ _ _ _ _ _ runs;
