@@ -52,7 +52,7 @@ pub record Stands (v : Visit) : Type 0 where
   pub on : (ui : Map Value) → v.state ≡ On ui → v.pending ≡ [] → IsWhole v ui
 
 -- A message is taken: the state and what is to come are those of its answer. No newest frame changes, and where the message is refused
--- no binding does.
+-- no binding does; of the bindings after another message nothing is said here.
 pub record Takes (m : Message) (before after : Visit) : Type 0 where
   pub state : after.state ≡ (answer (view_cells before.nb) before.budget before.state m).state
   pub pending : after.pending ≡ (answer (view_cells before.nb) before.budget before.state m).parts

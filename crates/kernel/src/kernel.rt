@@ -16,9 +16,9 @@ use std::marker::Model;
 use std::sync::ledger::Ledger;
 use ui_elements::Present;
 
-/// The session of one visitor of a notebook: it takes the visitor's messages and gives the frames of the answers, one a step. Only what
-/// depends on a change runs again. Contracts see it as a `Visit`. After `Memory` it is spoiled: `deliver` and `step` answer `Memory` from
-/// then on.
+/// The session of one visitor of a notebook: it takes the visitor's messages and gives the frames of the answers, one a step. Only the
+/// steps of what depends on a change are counted. Contracts see it as a `Visit`. After `Memory` it is spoiled: `deliver` and `step` answer
+/// `Memory` from then on.
 #[derive(Drop)]
 pub struct Kernel<'n> {
     state: KernelState<'n>,
@@ -80,7 +80,7 @@ impl<'n> Kernel<'n> {
     }
 
     /// Gives the next frame of the answer, where one is to come. For the frame of a cell the cell runs, or is cancelled; the steps that
-    /// it costs are counted.
+    /// it costs are counted, and no more where memory is wanting. `Idle` where none is to come.
     pub fn step<L: Ledger>(
         &mut self,
         alloc: Global,
@@ -115,7 +115,7 @@ impl<'n> Kernel<'n> {
         }
     }
 
-    /// The present values of elements that were set.
+    /// The present values of elements that were set. Of a spoiled kernel nothing is said.
     pub fn present(&self) -> &Present
         ensures present { self.now.spoiled ≡ false → result.now ≡ present_in self.now.state }
         ensures stands { self.now.spoiled ≡ false → Stands self.now }

@@ -9,7 +9,7 @@ use py_tree::{is_name, number};
 pub enum Message<'a> {
     /// `{"open":{}}`, which opens the notebook.
     Open,
-    /// `{"set":{NAME:NUMBER}}`, which sets the element of a name to a number.
+    /// `{"set":{"NAME":NUMBER}}`, which sets the element of a name to a number.
     Set { name: &'a str, number: i128 },
 }
 

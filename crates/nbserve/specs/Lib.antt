@@ -3,6 +3,5 @@ pub mod CommandFault
 pub mod Execution
 pub mod LoadFault
 pub mod Output
-pub mod Process
 pub mod Refusal
 pub mod Works

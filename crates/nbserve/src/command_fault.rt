@@ -59,7 +59,7 @@ impl From<ScriptFault> for CommandFault {
     }
 }
 
-/// Writes the text of a status, and answers the status, or that the text couldn't be written.
+/// Writes the text of a status, and answers the status; or 4 where a write failed, or 5 where memory was wanting and nothing was written.
 pub fn end_with<O: Sink>(out: &mut O, text: &[u8], status: u8) -> u8
     ensures ended { Ended status text.now result (O.taken out.old) (O.taken out.new)
         (Rose (O.faults out.old) (O.faults out.new)) }
@@ -96,7 +96,8 @@ fn refuse_script<O: Sink>(alloc: Global, line: u32, out: &mut O) -> u8
     }
 }
 
-/// Writes why a command isn't carried out, and answers the status. Nothing is written where memory is wanting.
+/// Writes why a command isn't carried out, and answers the status; or 4 where a write failed, or 5 where memory was wanting and nothing was
+/// written.
 pub fn end_stopped<O: Sink>(alloc: Global, stop: &CommandFault, out: &mut O) -> u8
     ensures ended { Ended (status_of stop.now) (stop_line stop.now) result (O.taken out.old)
         (O.taken out.new)

@@ -1,9 +1,10 @@
-//! The program that serves notebooks.
+//! The program that opens a notebook, or replays a visitor of one.
 #![tactic(auto)]
 
 ghost use Rattle.std.specs.Prelude.{◌≡◌, ◌<◌, map, string_bytes};
 ghost use Rattle.std.specs.Process.{exit_status};
-ghost use Rattle.nbserve.specs.Process.{AnswersFor, EndsWith};
+ghost use Rattle.link_io.specs.Outside.{Rose};
+ghost use Rattle.nbserve.specs.Output.{RunsTo};
 
 mod command;
 mod command_fault;
@@ -15,8 +16,9 @@ mod tests;
 mod top;
 
 use command_fault::WANT_OF_MEMORY;
-use link_io::{RealFiles, RealOut};
+use link_io::{Files, RealFiles, RealOut, Sink};
 use py_eval::Steps;
+use std::alloc::Global;
 use std::env;
 use std::io::ErrorKind;
 use std::marker::Brand;
@@ -24,15 +26,31 @@ use std::process::ExitCode;
 use std::sync::ledger::{Blank, Ledger};
 use top::run_words;
 
+// Runs the program, and ends the process with its status.
+fn end_process<F: Files, O: Sink, L: Ledger>(
+    alloc: Global,
+    words: &[String],
+    files: &mut F,
+    out: &mut O,
+    steps: &mut Steps<L>,
+) -> ExitCode
+    ensures { RunsTo (F.holds files.old) (Rose (F.faults files.old) (F.faults files.new))
+        (Rose (O.faults out.old) (O.faults out.new))
+        (map string_bytes words.now) (exit_status result) (O.taken out.old) (O.taken out.new)
+        steps.old steps.new }
+{
+    let status = run_words(alloc, words, files, out, steps);
+    ExitCode::from(status)
+}
+
 // Runs the program over the files of the system and the standard output. Nothing reads the count of its steps.
-fn run_really<L: Ledger>(rt: &HostRuntime, words: &[String], blank: Blank) -> u8
+fn run_really<L: Ledger>(rt: &HostRuntime, words: &[String], blank: Blank) -> ExitCode
     requires { (blank.name ≡ L.name) × (blank.parts ≡ L.parts) × (0 < blank.parts) }
-    ensures { AnswersFor (map string_bytes words.now) result }
 {
     let mut files = RealFiles::new(rt);
     let mut out = RealOut::new(rt);
     let mut steps = Steps::<L>::new(blank);
-    run_words(rt.alloc(), words, &mut files, &mut out, &mut steps)
+    end_process(rt.alloc(), words, &mut files, &mut out, &mut steps)
 }
 
 // The words of the command line without the program's own name; none where memory is wanting. A word that is no text is no word
@@ -52,24 +70,9 @@ fn words_of(rt: &HostRuntime) -> Option<Vec<String>> {
     Some(words)
 }
 
-// The process ends with the status.
-fn end_process(status: u8) -> ExitCode
-    ensures { exit_status result ≡ status }
-{
-    ExitCode::from(status)
-}
-
-// Runs the program with the words of the command line, and ends with its status.
-fn run_command_line(rt: &HostRuntime) -> ExitCode
-    ensures { EndsWith (exit_status result) }
-{
-    let status = match words_of(rt) {
-        Some(words) => run_really::<Brand>(rt, words.as_slice(), Blank::new(1)),
-        None => WANT_OF_MEMORY,
-    };
-    end_process(status)
-}
-
 fn main(rt: HostRuntime) -> ExitCode {
-    run_command_line(&rt)
+    match words_of(&rt) {
+        Some(words) => run_really::<Brand>(&rt, words.as_slice(), Blank::new(1)),
+        None => ExitCode::from(WANT_OF_MEMORY),
+    }
 }

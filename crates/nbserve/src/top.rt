@@ -206,7 +206,7 @@ pub fn run_words<F: Files, O: Sink, L: Ledger>(
         → Works (F.holds files.old) (map string_bytes words.now) nb ms
         → (result ≡ 0) ⊎ (result ≡ 3) ⊎ (result ≡ 4) ⊎ (result ≡ 5) }
 
-    // Where no count of faults rises, it is carried out, or memory is wanting.
+    // Where no count of faults rises or stands at its end, it is carried out, or memory is wanting.
     ensures complete { (nb : List Cell) (ms : List Message)
         → Works (F.holds files.old) (map string_bytes words.now) nb ms
         → (Rose (F.faults files.old) (F.faults files.new) → ⊥)
@@ -218,8 +218,8 @@ pub fn run_words<F: Files, O: Sink, L: Ledger>(
         → Works (F.holds files.old) (map string_bytes words.now) nb ms
         → steps.new ≡ steps.old + work nb usual_budget ms }
 
-    // Where a write fails and no count of read faults rises, a command that can be carried out is cut at the line of the last frame that a
-    // step gave, or in its last line: all before it was written, not all of it was, and no later steps are counted.
+    // Where a write fails and no count of read faults rises, the text of a command that can be carried out is cut in the line of a frame, with
+    // the steps up to this frame counted and no later ones, or in its last line: all before was written, and not all of it.
     ensures cut { result ≡ 4 → (asked : program.Command) (nb : List Cell) (ms : List Message)
         → command_of (map string_bytes words.now) ≡ Some asked
         → Works (F.holds files.old) (map string_bytes words.now) nb ms

@@ -4,8 +4,8 @@ use Rattle.link_io.specs.Outside.{Took}
 use Rattle.visit_meaning.specs.Answer.{Part, cost_of_parts, frames_in}
 use Rattle.frame_meaning.specs.FrameText.{frame_text, labelled}
 
--- The lines of the parts before one were written, and a beginning of the line of that one, but not all of it. The steps of these parts are
--- counted, and none of later ones.
+-- The lines of the parts before one were written, and a beginning of the line of that one, but not all of it. The steps of those parts
+-- and of this one are counted, and none of later ones.
 pub record IsCut (label : List ℕ) (parts : List Part) (before now : Option (List ℕ)) (count count_after : ℕ) : Type 0 where
   pub written : List Part
   pub last : Part

@@ -128,8 +128,8 @@ pub fn play<O: Sink, L: Ledger>(
         ((ms : List Message) → AreMessages (map (λ m. m.now) messages.now) ms
         → steps.new ≡ steps.old + work (view_cells notebook.now) budget ms) }
 
-    // Where a write fails, it is that of the last frame that a step gave: the lines of the frames before it were written, and of its own a
-    // beginning, but not all; no later steps are counted.
+    // A write that fails cuts the line of a frame: the lines of the frames before it were written, and of its own a beginning, but not all. The
+    // steps up to this frame are counted, and no later ones.
     ensures cut { IfErr result
         (λ fault. fault ≡ PlayFault.WriteFault → (ms : List Message)
         → AreMessages (map (λ m. m.now) messages.now) ms

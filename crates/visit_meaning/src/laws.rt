@@ -16,13 +16,14 @@ ghost use Rattle.visit_meaning.specs.Rerun.{AllSet, IsAfresh, Kept, after_cells,
 ghost use Rattle.visit_meaning.specs.Runnable.{Runnable};
 ghost use Rattle.visit_meaning.specs.Whole.{ended_ok, whole};
 
-/// Why it suffices to run again only the cells that a change reaches.
+/// Why it suffices to run again only the cells that a change reaches, in a runnable notebook in which no name is defined twice and no cell lies
+/// on a cycle.
 ///
 /// What is kept is afresh where it is what the whole notebook gives that runs from nothing: its bindings at the end, and the frame of each
-/// cell. So it is after the opening, whatever frames were kept before. When values are set that their elements admit, they are laid over
-/// the bindings, and only the cells of `rerun` run (`what_runs_again` says which they are), one after the other, each from what is kept
-/// then. At the end what is kept is afresh again, with the new present values; and what the cells gave on the way, with the number of these
-/// frames, is the answer to the message.
+/// cell. So it is after the opening from no bindings, whatever frames were kept before. When values are set that their elements admit, they are
+/// laid over the bindings, and only the cells of `rerun` run (`what_runs_again` says which they are), one after the other, each from what is
+/// kept then. At the end what is kept is afresh again, with the new present values; and what the cells gave on the way, with the number of
+/// these frames, is the answer to the message.
 pub fn rerun_suffices()
     ensures opened { (nb : List Cell) → Runnable nb → NoneDoubled nb → NoneCyclic nb
         → (budget : ℕ) (newest : ℕ → Option CellFrame)
@@ -48,8 +49,9 @@ pub fn messages_are_read_one_way()
     ensures one { (bytes : List ℕ) (m k : Message) → IsMessage bytes m → IsMessage bytes k → m ≡ k }
 {}
 
-/// What is in being in a notebook that runs where a visitor's messages have led: an element of each name that a cell creates which has
-/// ended ok, and no other; and each present value is that of an element in being, which admits it as it is.
+/// What is in being where a visitor's messages have led, in a runnable notebook in which no name is defined twice and no cell lies on a cycle: an
+/// element of each name that a cell creates which has ended ok, and no other; and each present value that was set is that of an element in
+/// being, which admits it as it is.
 pub fn elements_in_being()
     ensures being { (nb : List Cell) → Runnable nb → NoneDoubled nb → NoneCyclic nb
         → (budget : ℕ) (ms : List Message) (ui : Map Value)

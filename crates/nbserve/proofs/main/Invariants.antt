@@ -1,5 +1,5 @@
 -- the ledger of the program's steps
-use Rattle.nbserve.proofs.run_command_line.Given as goal
+use Rattle.nbserve.proofs.main.Given as goal
 
 abbrev pub ghosts-run_really : goal.ghosts-run_really
 ghosts-run_really a = record { name = a.blank.name; parts = a.blank.parts }
