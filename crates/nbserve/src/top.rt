@@ -218,8 +218,9 @@ pub fn run_words<F: Files, O: Sink, L: Ledger>(
         → Works (F.holds files.old) (map string_bytes words.now) nb ms
         → steps.new ≡ steps.old + work nb usual_budget ms }
 
-    // Where a write fails and no count of read faults rises, the text of a command that can be carried out is cut in the line of a frame, with
-    // the steps up to this frame counted and no later ones, or in its last line: all before was written, and not all of it.
+    // Where a write fails, and the count of read faults neither rises nor stands at its end, the text of a command that can be carried out is cut
+    // in the line of a frame, with the steps up to this frame counted and no later ones, or in its last line: all before was written, and not
+    // all of it.
     ensures cut { result ≡ 4 → (asked : program.Command) (nb : List Cell) (ms : List Message)
         → command_of (map string_bytes words.now) ≡ Some asked
         → Works (F.holds files.old) (map string_bytes words.now) nb ms
