@@ -1,2 +1,4 @@
 pub mod FileBytes
+pub mod Links
+pub mod MemLinks
 pub mod Outside

@@ -1,17 +1,26 @@
-//! The outside, as the program sees it: files that are read and a place that is written to, in memory and real.
+//! The outside, as the program sees it: files that are read, a place that is written to, and links to visitors, in memory and real.
 #![tactic(auto)]
 
+mod answers;
 mod files;
+mod gate;
+mod link;
 mod mem_files;
+mod mem_link;
 mod mem_sink;
+mod mem_talk;
 mod real_files;
 mod real_out;
 mod sink;
 mod whole_file;
 mod whole_text;
 
+pub use answers::{Received, Sent};
 pub use files::{Failed, Files};
+pub use gate::{Gate, NoGate};
+pub use link::Link;
 pub use mem_files::{MemFile, MemFiles};
+pub use mem_link::MemLink;
 pub use mem_sink::MemSink;
 pub use real_files::RealFiles;
 pub use real_out::RealOut;
