@@ -20,5 +20,7 @@ pub mod NextFrame
 pub mod Newest
 -- For each call: what stands by what is kept.
 pub mod KeptState
--- For `every_visit`.
+-- For `every_visit`, and for those who make calls one after the other.
 pub mod SoloVisits
+pub mod CallsInTurn
+pub mod MessagesInTurn

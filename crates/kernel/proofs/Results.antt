@@ -34,3 +34,7 @@ if_err_of (Err x) e P h p = subst P (sym h) p
 pub if_err_always : {T E : Type 0} (r : Result T E) (P : E → Type 0) → ((e : E) → P e) → IfErr r P
 if_err_always (Ok x) P h = tt
 if_err_always (Err e) P h = h e
+
+pub if_err_then : {T E : Type 0} (r : Result T E) (P Q : E → Type 0) → ((e : E) → P e → Q e) → IfErr r P → IfErr r Q
+if_err_then (Ok x) P Q f h = tt
+if_err_then (Err e) P Q f h = f e h

@@ -1,6 +1,6 @@
 -- Visits from their beginning: what a kernel's calls come to, one after the other.
 use Rattle.std.specs.Prelude.{◌≡◌, ℕ, ◌+◌, List, [], ◌∷◌, ◌++◌, fold, length, replicate, Option, None}
-use Rattle.visit_meaning.specs.Answer.{Before, Message, cost_of_parts, frames_in, solo, state_after, work}
+use Rattle.visit_meaning.specs.Answer.{Before, Message, Part, cost_of_parts, frames_in, parts_from, solo, state_after, work}
 use Rattle.visit_meaning.specs.Messages.{AreMessages}
 use Rattle.frames.specs.declared.frame.CellFrame.{CellFrame}
 use Rattle.frames.specs.declared.frame.Frame.{Frame}
@@ -50,3 +50,22 @@ pub record IsSolo (nb : List CellCode) (budget : ℕ) (sent : List (List ℕ)) (
   pub newest : after.newest ≡ newest_after (replicate (length nb) None) given
   pub state : after.state ≡ state_after (view_cells nb) budget Before messages
   pub steps : count_after + cost_of_parts after.pending ≡ count + work (view_cells nb) budget messages
+
+-- what a visit gives from here on to a visitor who sends these messages: the parts that are still to come, and those of the answers
+abbrev pub parts_for : Visit → List Message → List Part
+parts_for v ms = v.pending ++ parts_from (view_cells v.nb) v.budget v.state ms
+
+-- From one visit to another: the parts that were given, and behind them those that are still to come, are the parts for the messages that
+-- were taken; the steps that were counted are those of the parts that were given; the newest frame of each cell is the last one that was
+-- given of it, if there is one; and the state is the one to which the messages lead.
+pub record GoesOn (v : Visit) (sent : List (List ℕ)) (given : List Frame) (after : Visit) (count count_after : ℕ) : Type 0 where
+  pub messages : List Message
+  pub are : AreMessages sent messages
+  pub parts : List Part
+  pub frames : given ≡ frames_in parts
+  pub whole : parts ++ after.pending ≡ parts_for v messages
+  pub steps : count_after ≡ count + cost_of_parts parts
+  pub newest : after.newest ≡ newest_after v.newest given
+  pub state : after.state ≡ state_after (view_cells v.nb) v.budget v.state messages
+  pub nb : after.nb ≡ v.nb
+  pub budget : after.budget ≡ v.budget

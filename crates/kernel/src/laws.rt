@@ -3,7 +3,7 @@ ghost use Rattle.std.specs.Prelude.{◌≡◌, ℕ, List, [], ◌∷◌, sum};
 ghost use Rattle.visit_meaning.specs.Answer.{Open, work};
 ghost use Rattle.visit_meaning.specs.Whole.{whole};
 ghost use Rattle.kernel.specs.Visit.{Visit, begun};
-ghost use Rattle.kernel.specs.Calls.{Call, Leads, IsSolo, taken_by, given_by};
+ghost use Rattle.kernel.specs.Calls.{Call, GoesOn, Leads, IsSolo, taken_by, given_by};
 ghost use Rattle.py_tree.specs.Trees.{Cell};
 ghost use Rattle.py_tree.specs.declared.tree.CellCode.{CellCode};
 
@@ -15,6 +15,11 @@ pub fn every_visit()
         (count count_after : ℕ)
         → Leads calls (begun nb budget) after count count_after
         → IsSolo nb budget (taken_by calls) (given_by calls) after count count_after }
+
+    // So it is from any visit on, with the frames that were still to come there before those of the answers.
+    ensures onward { (calls : List Call) (v after : Visit) (count count_after : ℕ)
+        → Leads calls v after count count_after
+        → GoesOn v (taken_by calls) (given_by calls) after count count_after }
 {}
 
 /// The messages of a visitor who only opens a notebook cost what the whole notebook costs.

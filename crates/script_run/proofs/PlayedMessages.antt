@@ -1,26 +1,18 @@
 -- Messages of a visitor alone, one after the other.
 use Rattle.std.proofs.Common.{◌≡◌, ◌∙◌, refl, sym, ap, subst, ℕ, ◌+◌, ◌<◌, ◌≤◌, Bor, List, [], ◌∷◌, ◌++◌, length, get_or, take, drop, map, append_assoc, append-nil, arith}
 use Rattle.std.proofs.lemmas.List.{map-append, map_more, take-append-drop, take_all}
-use Rattle.visit_meaning.proofs.MessageTexts.{one}
 use Rattle.visit_meaning.specs.Answer.{Message, Part, State, Before, answer, cost_of_parts, parts_from, state_after, work}
 use Rattle.visit_meaning.specs.Messages.{IsMessage, AreMessages}
 use Rattle.py_tree.specs.Trees.{Cell}
 use Rattle.py_tree.specs.View.{view_cells}
 use Rattle.py_tree.specs.declared.tree.CellCode.{CellCode}
 use Rattle.script_run.proofs.GivenFrames.{costs_append}
+use Rattle.kernel.proofs.MessagesInTurn.{parts_append, parts_begin, same_messages}
 use Rattle.kernel.specs.Visit.{Visit, begun, IsDelivery, Takes}
 use Rattle.kernel.specs.declared.answers.Delivered.{Delivered}
 use Rattle.kernel.specs.declared.answers.Delivered.TheVariants as delivered
 
 -- ---- messages and further ones
-
-parts_append : (nb : List Cell) (budget : ℕ) (s : State) (ks ms : List Message)
-    → parts_from nb budget s (ks ++ ms) ≡ parts_from nb budget s ks ++ parts_from nb budget (state_after nb budget s ks) ms
-parts_append nb budget s [] ms = refl
-parts_append nb budget s (k ∷ ks) ms =
-    let a = answer nb budget s k in
-    ap (λ ps. a.parts ++ ps) (parts_append nb budget a.state ks ms)
-    ∙ sym (append_assoc a.parts (parts_from nb budget a.state ks) (parts_from nb budget (state_after nb budget a.state ks) ms))
 
 parts_more : (nb : List Cell) (budget : ℕ) (s : State) (ms : List Message) (m : Message)
     → parts_from nb budget s (ms ++ m ∷ []) ≡ parts_from nb budget s ms ++ (answer nb budget (state_after nb budget s ms) m).parts
@@ -39,34 +31,6 @@ are_more [] [] bytes m are is = (is, tt)
 are_more [] (k ∷ ms) bytes m are is = absurd are
 are_more (b ∷ sent) [] bytes m are is = absurd are
 are_more (b ∷ sent) (k ∷ ms) bytes m are is = (are.0, are_more sent ms bytes m are.1 is)
-
--- bytes are the same messages each time, and those of the first bytes come first
-messages_begin : (done left : List (List ℕ)) (ks ms : List Message) → AreMessages done ks → AreMessages (done ++ left) ms
-    → (rest : List Message) × (ms ≡ ks ++ rest)
-messages_begin [] left [] ms a b = (ms, refl)
-messages_begin [] left (k ∷ ks) ms a b = absurd a
-messages_begin (t ∷ done) left [] ms a b = absurd a
-messages_begin (t ∷ done) left (k ∷ ks) [] a b = absurd b
-messages_begin (t ∷ done) left (k ∷ ks) (m ∷ ms) a b =
-    let rest = messages_begin done left ks ms a.1 b.1 in
-    (rest.0, ap (λ x. x ∷ ms) (one t m k b.0 a.0) ∙ ap (λ xs. k ∷ xs) rest.1)
-
-same_messages : (sent : List (List ℕ)) (ks ms : List Message) → AreMessages sent ks → AreMessages sent ms → ks ≡ ms
-same_messages [] [] [] a b = refl
-same_messages [] [] (m ∷ ms) a b = absurd b
-same_messages [] (k ∷ ks) ms a b = absurd a
-same_messages (t ∷ sent) [] ms a b = absurd a
-same_messages (t ∷ sent) (k ∷ ks) [] a b = absurd b
-same_messages (t ∷ sent) (k ∷ ks) (m ∷ ms) a b =
-    ap (λ x. x ∷ ks) (one t k m a.0 b.0) ∙ ap (λ xs. m ∷ xs) (same_messages sent ks ms a.1 b.1)
-
--- the parts of the first messages come first
-parts_begin : (nb : List Cell) (budget : ℕ) (done left : List (List ℕ)) (ks ms : List Message) → AreMessages done ks
-    → AreMessages (done ++ left) ms → (more : List Part) × (parts_from nb budget Before ks ++ more ≡ parts_from nb budget Before ms)
-parts_begin nb budget done left ks ms a b =
-    let rest = messages_begin done left ks ms a b in
-    let later = parts_from nb budget (state_after nb budget Before ks) rest.0 in
-    (later, sym (ap (parts_from nb budget Before) rest.1 ∙ parts_append nb budget Before ks rest.0))
 
 -- a message that is taken
 taken_of : (bytes : List ℕ) (v w : Visit) (d : Delivered) → v.pending ≡ [] → IsDelivery bytes v w d → (m : Message) × IsMessage bytes m × Takes m v w
@@ -172,7 +136,7 @@ played_begins {nb = nb} {budget = budget} messages i p ms are =
     let now : Bor (List ℕ) → List ℕ = λ m. m.now in
     let sent : texts messages ≡ texts (take i messages) ++ texts (drop i messages) =
     ap (map now) (sym (take-append-drop i messages)) ∙ map-append now (take i messages) (drop i messages) in
-    let begins = parts_begin (view_cells nb) budget (texts (take i messages)) (texts (drop i messages)) p.messages ms p.are
+    let begins = parts_begin (begun nb budget) (texts (take i messages)) (texts (drop i messages)) p.messages ms p.are
     (subst (λ bytes. AreMessages bytes ms) sent are) in
     (begins.0, ap (λ ps. ps ++ begins.0) p.given ∙ begins.1)
 
