@@ -1,0 +1,36 @@
+-- How far the serving of a visitor has come.
+use Rattle.std.specs.Prelude.{◌≡◌, ℕ, ◌+◌, List, [], ◌++◌, map, Option}
+use Rattle.frame_meaning.specs.FrameText.{frame_text}
+use Rattle.kernel.specs.Calls.{Call, Leads, given_by, taken_by}
+use Rattle.kernel.specs.Visit.{AtMostFirst, Stands, Visit, first_cost}
+use Rattle.link_io.specs.Links.{Item, Told}
+use Rattle.session.specs.Talks.{Talked}
+use Rattle.session.specs.declared.unsent.Unsent.{Unsent}
+use Rattle.session.specs.declared.unsent.Unsent.TheVariants as unsent
+
+-- Calls of the kernel lead from the visit `v` to `w`. The kernel took these bytes, these messages were taken from the link, and the texts of
+-- all frames that were given were sent.
+pub record Went (v : Visit) (count : ℕ) (before : Option Told) (bytes : List (List ℕ)) (items : List Item) (w : Visit) (count_after : ℕ) (now : Option Told) : Type 0 where
+  pub calls : List Call
+  pub led : Leads calls v w count count_after
+  pub took : taken_by calls ≡ bytes
+  pub talked : Talked before now items (map frame_text (given_by calls))
+
+-- the kernel took these bytes, and all frames that were to come were sent
+pub record Drains (v : Visit) (count : ℕ) (before : Option Told) (bytes : List (List ℕ)) (w : Visit) (count_after : ℕ) (now : Option Told) : Type 0 where
+  pub went : Went v count before bytes [] w count_after now
+  pub over : w.pending ≡ []
+  pub stands : Stands w
+
+-- It went so far and no further: no more steps are counted than those of the next part. Where the link failed, the kernel took all messages,
+-- and where a part was still to come, it is one whose text couldn't be sent; its steps are counted. Where memory was wanting, there may be
+-- bytes which the kernel didn't take.
+pub record Breaks (why : Unsent) (v : Visit) (count : ℕ) (before : Option Told) (bytes : List (List ℕ)) (items : List Item) (count_after : ℕ) (now : Option Told) : Type 0 where
+  pub at : Visit
+  pub count_at : ℕ
+  pub took : List (List ℕ)
+  pub left : List (List ℕ)
+  pub went : Went v count before took items at count_at now
+  pub are : bytes ≡ took ++ left
+  pub most : AtMostFirst at.pending count_at count_after
+  pub exact : why ≡ unsent.Failed → (left ≡ []) × (count_after ≡ count_at + first_cost at.pending)

@@ -1,0 +1,82 @@
+-- What a visitor is sent who is served, and the steps that are counted.
+use Rattle.std.specs.Prelude.{◌≡◌, ℕ, ◌+◌, ◌≤◌, All, List, [], ◌++◌, length, map, Option}
+use Rattle.frame_meaning.specs.FrameText.{frame_text}
+use Rattle.kernel.specs.Calls.{newest_after, parts_for}
+use Rattle.kernel.specs.Visit.{Stands, Visit, first_cost}
+use Rattle.link_io.specs.Links.{Item, Told}
+use Rattle.py_tree.specs.View.{view_cells}
+use Rattle.py_tree.specs.declared.tree.CellCode.{CellCode}
+use Rattle.visit_meaning.specs.Answer.{Message, Part, cost_of_parts, frames_in, solo, state_after}
+use Rattle.visit_meaning.specs.Messages.{AreMessages}
+use Rattle.session.specs.Talks.{IsNoClose, IsOver, Talked, bytes_of, texts_of}
+use Rattle.session.specs.declared.ended.Ended.{Ended}
+use Rattle.session.specs.declared.ended.Ended.TheVariants as ended
+
+-- These messages were taken from the link, none of them the close message, and exactly the texts for them were sent: those of the frames that were still to come, and those of
+-- a visitor alone who sends these messages from there on. No frame is to come; state and newest frames are those to which these lead, and they
+-- stand as those of the whole notebook.
+pub record IsServed (v : Visit) (before : Option Told) (items : List Item) (after : Visit) (now : Option Told) : Type 0 where
+  pub messages : List Message
+  pub are : AreMessages (map bytes_of items) messages
+  pub unclosed : All IsNoClose items
+  pub talked : Talked before now items (texts_of (parts_for v messages))
+  pub over : after.pending ≡ []
+  pub state : after.state ≡ state_after (view_cells v.nb) v.budget v.state messages
+  pub newest : after.newest ≡ newest_after v.newest (frames_in (parts_for v messages))
+  pub stands : Stands after
+  pub nb : after.nb ≡ v.nb
+  pub budget : after.budget ≡ v.budget
+
+-- these are the texts of a prefix of the parts
+pub record ArePrefix (parts : List Part) (these : List (List ℕ)) : Type 0 where
+  pub sent : List Part
+  pub rest : List Part
+  pub whole : parts ≡ sent ++ rest
+  pub texts : these ≡ texts_of sent
+
+-- Messages were taken, none of them the close message, and texts were sent, which are a prefix of those for these messages.
+pub record IsCutShort (v : Visit) (before now : Option Told) : Type 0 where
+  pub items : List Item
+  pub texts : List (List ℕ)
+  pub unclosed : All IsNoClose items
+  pub talked : Talked before now items texts
+  pub begin : (ms : List Message) → AreMessages (map bytes_of items) ms → ArePrefix (parts_for v ms) texts
+
+-- the most messages that are answered in one call
+abbrev pub message_count_limit : ℕ
+message_count_limit = 1000000
+
+-- What was taken and sent when a session ends. Where it was closed, nothing more was read than the close message, if there was one.
+abbrev pub Serves : Ended → Visit → Option Told → Visit → Option Told → Type 0
+Serves ended.Closed v before after now = (items : List Item) × (mid : Option Told) × IsServed v before items after mid × IsOver mid now
+Serves ended.TooMany v before after now = (items : List Item) × (length items ≡ message_count_limit) × IsServed v before items after now
+Serves ended.LinkFault v before after now = IsCutShort v before now
+Serves ended.Memory v before after now = IsCutShort v before now
+
+-- these messages were taken, and exactly the steps of the parts for them were counted
+pub record IsCounted (v : Visit) (before : Option Told) (items : List Item) (count count_after : ℕ) (now : Option Told) : Type 0 where
+  pub messages : List Message
+  pub are : AreMessages (map bytes_of items) messages
+  pub texts : List (List ℕ)
+  pub talked : Talked before now items texts
+  pub steps : count_after ≡ count + cost_of_parts (parts_for v messages)
+
+-- The steps that were counted when a session ends. Where the link failed, they are those of the parts that were sent and of the next one, if
+-- there was one; where memory was wanting, at most these.
+abbrev pub Counts : Ended → Visit → Option Told → (count count_after : ℕ) → Option Told → Type 0
+Counts ended.Closed v before count count_after now =
+    (items : List Item) × (mid : Option Told) × IsCounted v before items count count_after mid × IsOver mid now
+Counts ended.TooMany v before count count_after now = (items : List Item) × IsCounted v before items count count_after now
+Counts ended.LinkFault v before count count_after now = (c : IsCutShort v before now)
+    × ((ms : List Message) (are : AreMessages (map bytes_of c.items) ms)
+      → count_after ≡ count + cost_of_parts (c.begin ms are).sent + first_cost (c.begin ms are).rest)
+Counts ended.Memory v before count count_after now = (c : IsCutShort v before now)
+    × ((ms : List Message) (are : AreMessages (map bytes_of c.items) ms)
+      → (count + cost_of_parts (c.begin ms are).sent ≤ count_after)
+      × (count_after ≤ count + cost_of_parts (c.begin ms are).sent + first_cost (c.begin ms are).rest))
+
+-- what was sent over a link are the texts of the frames of a visitor alone who sends these messages
+pub record SentSolo (nb : List CellCode) (budget : ℕ) (items : List Item) (now : Told) : Type 0 where
+  pub messages : List Message
+  pub are : AreMessages (map bytes_of items) messages
+  pub texts : now.sent ≡ map frame_text (solo (view_cells nb) budget messages)

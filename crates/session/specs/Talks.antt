@@ -1,0 +1,44 @@
+-- What goes over a link: messages that are taken, and texts that are sent.
+use Rattle.std.specs.Prelude.{◌≡◌, ◌⊎◌, ℕ, List, [], ◌∷◌, ◌++◌, codes, map, Option, Some, None, IfSome}
+use Rattle.frame_meaning.specs.FrameText.{frame_text}
+use Rattle.link_io.specs.Links.{Item, Told}
+use Rattle.visit_meaning.specs.Answer.{Part, frames_in}
+use Rattle.session.specs.declared.heard.Heard.{Heard}
+use Rattle.session.specs.declared.heard.Heard.TheVariants as heard
+
+-- the bytes that a kernel is given for a message: none for what is no text, and no message has no bytes
+abbrev pub bytes_of : Item → List ℕ
+bytes_of (Some bytes) = bytes
+bytes_of None = []
+
+-- the message that ends a session
+abbrev pub close_text : List ℕ
+close_text = codes "{\"close\":{}}"
+
+abbrev pub IsNoClose : Item → Type 0
+IsNoClose m = m ≡ Some close_text → ⊥
+
+-- the texts of the frames of parts, one a frame
+abbrev pub texts_of : List Part → List (List ℕ)
+texts_of parts = map frame_text (frames_in parts)
+
+-- where it is told, these messages were taken, these texts were sent, and nothing else
+abbrev pub Talked : Option Told → Option Told → List Item → List (List ℕ) → Type 0
+Talked before now items texts = IfSome before
+    (λ b. (left : List Item) × (b.left ≡ items ++ left) × (now ≡ Some (record { taken = b.taken ++ items; left = left; sent = b.sent ++ texts })))
+
+-- where it is told, no message is left
+abbrev pub AtEnd : Option Told → Option Told → Type 0
+AtEnd before now = IfSome before (λ b. (b.left ≡ []) × (now ≡ Some b))
+
+-- the link was read to its end, or to a close message
+abbrev pub IsOver : Option Told → Option Told → Type 0
+IsOver before now = AtEnd before now ⊎ Talked before now (Some close_text ∷ []) []
+
+-- what was heard
+abbrev pub Hears : Option Told → Option Told → Heard → Type 0
+Hears before now (heard.Message v) = (m : Item) × (bytes_of m ≡ v.items) × IsNoClose m × Talked before now (m ∷ []) []
+Hears before now heard.Close = Talked before now (Some close_text ∷ []) []
+Hears before now heard.End = AtEnd before now
+Hears before now heard.Failed = Talked before now [] []
+Hears before now heard.Memory = Talked before now [] []

@@ -1,0 +1,93 @@
+// The serving of one visitor.
+ghost use Rattle.std.specs.Prelude.{◌≡◌, ◌≤◌, ◌∷◌, [], IfErr, OnOk};
+ghost use Rattle.link_io.specs.Outside.{Rose};
+ghost use Rattle.session.specs.Endings.{ended_for};
+ghost use Rattle.session.specs.Progress.{Breaks, Drains};
+ghost use Rattle.session.specs.Serving.{Counts, Serves};
+
+use crate::ended::Ended;
+use crate::heard::Heard;
+use crate::hearing::hear;
+use crate::sending::drain;
+use crate::unsent::Unsent;
+use kernel::Kernel;
+use link_io::Link;
+use py_eval::Steps;
+use std::alloc::Global;
+use std::sync::Wait;
+use std::sync::ledger::Ledger;
+
+// The most messages that one call answers.
+const MESSAGE_COUNT_LIMIT: u32 = 1_000_000;
+
+// How a session ends whose frames aren't sent to their end.
+fn ended_of(why: Unsent) -> Ended
+    ensures { result ≡ ended_for why }
+{
+    match why {
+        Unsent::Failed => Ended::LinkFault,
+        Unsent::Memory => Ended::Memory,
+    }
+}
+
+// Answers a message.
+fn answer_message<'n, K: Link, L: Ledger>(
+    alloc: Global,
+    kernel: &mut Kernel<'n>,
+    bytes: &[u8],
+    text: &mut Vec<u8>,
+    link: &mut K,
+    steps: &mut Steps<L>,
+) -> Result<(), Unsent>
+    requires { kernel.old.pending ≡ [] }
+    ensures answered { OnOk result
+        (Drains kernel.old steps.old (K.told link.old) (bytes.now ∷ []) kernel.new steps.new (K.told link.new)) }
+    ensures broke { IfErr result
+        (λ why. Breaks why kernel.old steps.old (K.told link.old) (bytes.now ∷ []) [] steps.new (K.told link.new)) }
+    ensures later { K.faults link.old ≤ K.faults link.new }
+    ensures failed { IfErr result
+        (λ why. why ≡ Unsent.Failed → Rose (K.faults link.old) (K.faults link.new)) }
+{
+    let _taken = kernel.deliver(alloc, bytes)?;
+    drain(alloc, kernel, text, link, steps)
+}
+
+/// Serves a visitor over a link. It sends the frames that are still to come; then, again and again, it takes a message, answers it, and
+/// sends the frames of the answer, each as one text. It ends as `Ended` says, after at most 1,000,000 messages. It does nothing to the
+/// kernel but `deliver` and `step`. It waits for the visitor wherever the link does.
+pub fn serve_visitor<'n, R: Wait, K: Link, L: Ledger>(
+    _rt: &R,
+    alloc: Global,
+    kernel: &mut Kernel<'n>,
+    link: &mut K,
+    steps: &mut Steps<L>,
+) -> Ended
+    // What was taken and sent, and what the kernel then is.
+    ensures serves { Serves result kernel.old (K.told link.old) kernel.new (K.told link.new) }
+
+    // The steps that were counted.
+    ensures steps { Counts result kernel.old (K.told link.old) steps.old steps.new (K.told link.new) }
+    ensures later { K.faults link.old ≤ K.faults link.new }
+    ensures failed { result ≡ Ended.LinkFault → Rose (K.faults link.old) (K.faults link.new) }
+{
+    let mut text = Vec::new(alloc);
+    if let Err(why) = drain(alloc, kernel, &mut text, link, steps) {
+        return ended_of(why);
+    }
+    for _ in 0..MESSAGE_COUNT_LIMIT {
+        match hear(alloc, link) {
+            Heard::Message(bytes) => {
+                if let Err(why) =
+                    answer_message(alloc, kernel, bytes.as_slice(), &mut text, link, steps)
+                {
+                    return ended_of(why);
+                }
+            }
+            Heard::Close => return Ended::Closed,
+            Heard::End => return Ended::Closed,
+            Heard::Failed => return Ended::LinkFault,
+            Heard::Memory => return Ended::Memory,
+        }
+    }
+    Ended::TooMany
+}
