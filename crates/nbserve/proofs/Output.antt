@@ -20,6 +20,7 @@ use Rattle.nbserve.specs.Works as works
 use Rattle.nbserve.specs.Works.{Works, label_of, last_of}
 use Rattle.nbserve.specs.Output as output
 use Rattle.nbserve.specs.Output.{Ended, RunsTo}
+use Rattle.nbserve.specs.Shows.{Shows}
 use Rattle.nbserve.specs.declared.command_fault.CommandFault.{CommandFault}
 use Rattle.nbserve.specs.declared.command_fault.CommandFault.TheVariants as stop
 
@@ -219,39 +220,39 @@ module _ (holds : List ℕ → Option (Option (List ℕ))) (unread unwritten : T
       ⊎_elim (λ one. ⊎_elim (λ is. inl is) (λ read. inr (inl read)) one) (λ fault. ⊎_elim (λ write. inr (inr (inl write.0))) (λ memory. inr (inr (inr memory))) fault)
       (come_to (λ come. (come ≡ a) ⊎ (come ≡ 3)) each w)
 
-  pub runs_range : Runs → status ≤ 6
+  runs_range : Runs → status ≤ 6
   runs_range w =
       ⊎_elim (λ is. is) (λ fault. ⊎_elim (λ write. let four = write.0 in omega (arith, four)) (λ memory. omega (arith, memory)) fault)
       (come_to (λ come. come ≤ 6) (λ come text comes. (comes_range holds unread words come text comes).0) w)
 
   -- a read fault has its cause, and so has a write fault
-  pub runs_read : Runs → status ≡ 3 → unread
+  runs_read : Runs → status ≡ 3 → unread
   runs_read w h =
       ⊎_elim (λ cause. cause h) (λ fault. ⊎_elim (λ write. let four = write.0 in absurd (omega (arith, four, h))) (λ memory. absurd (omega (arith, memory, h))) fault)
       (come_to (λ come. come ≡ 3 → unread) (comes_read holds unread words) w)
 
-  pub runs_write : Runs → status ≡ 4 → unwritten
+  runs_write : Runs → status ≡ 4 → unwritten
   runs_write w h =
       ⊎_elim (λ other. absurd (other h)) (λ fault. ⊎_elim (λ write. write.1) (λ memory. absurd (omega (arith, memory, h))) fault)
       (come_to (λ come. come ≡ 4 → ⊥) (λ come text comes. (comes_range holds unread words come text comes).1) w)
 
-  pub runs_usage : Runs → command_of words ≡ None → (status ≡ 2) ⊎ (status ≡ 4) ⊎ (status ≡ 5)
+  runs_usage : Runs → command_of words ≡ None → (status ≡ 2) ⊎ (status ≡ 4) ⊎ (status ≡ 5)
   runs_usage w h =
       ⊎_elim (λ is. inl is) (λ fault. ⊎_elim (λ write. inr (inl write.0)) (λ memory. inr (inr memory)) fault)
       (come_to (λ come. come ≡ 2) (λ come text comes. comes_usage holds unread words come text comes h) w)
 
-  pub runs_accepted : Runs → (nb : List Cell) (ms : List Message) → Works holds words nb ms → (status ≡ 0) ⊎ (status ≡ 3) ⊎ (status ≡ 4) ⊎ (status ≡ 5)
+  runs_accepted : Runs → (nb : List Cell) (ms : List Message) → Works holds words nb ms → (status ≡ 0) ⊎ (status ≡ 3) ⊎ (status ≡ 4) ⊎ (status ≡ 5)
   runs_accepted w nb ms can = come_to_one 0 (λ come text comes. comes_works holds unread words come text comes nb ms can) w
 
-  pub runs_refused : Runs → (asked : Command) (all : List ℕ) → command_of words ≡ Some asked → holds (notebook_of asked) ≡ Some (Some all) → IsRefused (read_of all) → (status ≡ 1) ⊎ (status ≡ 3) ⊎ (status ≡ 4) ⊎ (status ≡ 5)
+  runs_refused : Runs → (asked : Command) (all : List ℕ) → command_of words ≡ Some asked → holds (notebook_of asked) ≡ Some (Some all) → IsRefused (read_of all) → (status ≡ 1) ⊎ (status ≡ 3) ⊎ (status ≡ 4) ⊎ (status ≡ 5)
   runs_refused w command all asked told never = come_to_one 1 (λ come text comes. comes_refused holds unread words come text comes command all asked told never) w
 
-  pub runs_no_script : Runs → (file script all shown : List ℕ) (nb : List Cell) → command_of words ≡ Some (Play file script) → holds file ≡ Some (Some all) → IsAccepted (read_of all) nb → holds script ≡ Some (Some shown) → IsNoScript (read_of shown) → (status ≡ 6) ⊎ (status ≡ 3) ⊎ (status ≡ 4) ⊎ (status ≡ 5)
+  runs_no_script : Runs → (file script all shown : List ℕ) (nb : List Cell) → command_of words ≡ Some (Play file script) → holds file ≡ Some (Some all) → IsAccepted (read_of all) nb → holds script ≡ Some (Some shown) → IsNoScript (read_of shown) → (status ≡ 6) ⊎ (status ≡ 3) ⊎ (status ≡ 4) ⊎ (status ≡ 5)
   runs_no_script w file script all shown nb asked told ok there never =
       come_to_one 6 (λ come text comes. comes_no_script holds unread words come text comes file script all shown nb asked told ok there never) w
 
   -- where no fault came, a command that can be carried out is, or memory is wanting
-  pub runs_complete : Runs → (nb : List Cell) (ms : List Message) → Works holds words nb ms → (unread → ⊥) → (unwritten → ⊥) → (status ≡ 0) ⊎ (status ≡ 5)
+  runs_complete : Runs → (nb : List Cell) (ms : List Message) → Works holds words nb ms → (unread → ⊥) → (unwritten → ⊥) → (status ≡ 0) ⊎ (status ≡ 5)
   runs_complete w nb ms can read write =
       ⊎_elim (λ done. inl done) (λ fault. ⊎_elim (λ three. absurd (read (runs_read w three))) (λ other. ⊎_elim (λ four. absurd (write (runs_write w four))) (λ memory. inr memory) other) fault)
       (runs_accepted w nb ms can)
@@ -285,7 +286,7 @@ module _ (holds : List ℕ → Option (Option (List ℕ))) (unread unwritten : T
   none_prefix asked nb ms none still =
       record { written = []; rest = parts_from nb usual_budget Before ms; are = refl; least = omega (arith, still); most = omega (arith, still); took = none }
 
-  pub runs_steps : Runs → status ≡ 0 → (nb : List Cell) (ms : List Message) → Works holds words nb ms → count_after ≡ count + work nb usual_budget ms
+  runs_steps : Runs → status ≡ 0 → (nb : List Cell) (ms : List Message) → Works holds words nb ms → count_after ≡ count + work nb usual_budget ms
   runs_steps (output.carried c) zero nb ms can =
       let asked = asked_for nb ms can in
       done_steps asked.0 nb ms (carried_done holds words status before now unwritten count count_after c asked.0 nb ms asked.1 can) zero
@@ -294,7 +295,7 @@ module _ (holds : List ℕ → Option (Option (List ℕ))) (unread unwritten : T
   runs_steps (output.stopped come text other comes (output.wanting e none) still) zero nb ms can = absurd (omega (arith, e, zero))
   runs_steps (output.wanting e none still) zero nb ms can = absurd (omega (arith, e, zero))
 
-  pub runs_cut : Runs → status ≡ 4 → (asked : Command) (nb : List Cell) (ms : List Message) → command_of words ≡ Some asked → Works holds words nb ms → (unread → ⊥)
+  runs_cut : Runs → status ≡ 4 → (asked : Command) (nb : List Cell) (ms : List Message) → command_of words ≡ Some asked → Works holds words nb ms → (unread → ⊥)
       → IsCutOff (label_of asked) (last_of asked) (parts_from nb usual_budget Before ms) before now count count_after
   runs_cut (output.carried c) four asked nb ms h can read =
       done_cut asked nb ms (carried_done holds words status before now unwritten count count_after c asked nb ms h can) four
@@ -302,7 +303,7 @@ module _ (holds : List ℕ → Option (Option (List ℕ))) (unread unwritten : T
       absurd (⊎_elim other (λ three. read (comes_read holds unread words come text comes three)) (comes_works holds unread words come text comes nb ms can))
   runs_cut (output.wanting e none still) four asked nb ms h can read = absurd (omega (arith, e, four))
 
-  pub runs_prefix : Runs → status ≡ 5 → (asked : Command) (nb : List Cell) (ms : List Message) → command_of words ≡ Some asked → Works holds words nb ms
+  runs_prefix : Runs → status ≡ 5 → (asked : Command) (nb : List Cell) (ms : List Message) → command_of words ≡ Some asked → Works holds words nb ms
       → WrotePrefix (label_of asked) (parts_from nb usual_budget Before ms) before now count count_after
   runs_prefix (output.carried c) five asked nb ms h can =
       done_prefix asked nb ms (carried_done holds words status before now unwritten count count_after c asked nb ms h can) five
@@ -313,9 +314,25 @@ module _ (holds : List ℕ → Option (Option (List ℕ))) (unread unwritten : T
   runs_prefix (output.wanting e none still) five asked nb ms h can = none_prefix asked nb ms none still
 
   -- where a test isn't passed, no step was counted
-  pub runs_unrun : Runs → (status ≡ 1) ⊎ (status ≡ 2) ⊎ (status ≡ 3) ⊎ (status ≡ 6) → count_after ≡ count
+  runs_unrun : Runs → (status ≡ 1) ⊎ (status ≡ 2) ⊎ (status ≡ 3) ⊎ (status ≡ 6) → count_after ≡ count
   runs_unrun (output.carried c) one =
       let comes = (carried_comes unread c).2 in
       absurd (⊎_elim (λ e. grind (arith, e, one)) (λ fault. ⊎_elim (λ write. let four = write.0 in grind (arith, four, one)) (λ memory. grind (arith, memory, one)) fault) comes)
   runs_unrun (output.stopped come text other comes ended still) one = still
   runs_unrun (output.wanting e none still) one = still
+
+  pub runs_show : Runs → Shows holds unread unwritten words status before now count count_after
+  runs_show w = record {
+    range = runs_range w;
+    read = runs_read w;
+    write = runs_write w;
+    usage = runs_usage w;
+    accepted = runs_accepted w;
+    complete = runs_complete w;
+    steps = runs_steps w;
+    cut = runs_cut w;
+    prefix = runs_prefix w;
+    refused = runs_refused w;
+    no_script = runs_no_script w;
+    unrun = runs_unrun w;
+  }

@@ -4,4 +4,5 @@ pub mod Execution
 pub mod LoadFault
 pub mod Output
 pub mod Refusal
+pub mod Shows
 pub mod Works

@@ -1,19 +1,14 @@
 // The top call.
-ghost use Rattle.std.specs.Prelude.{◌≡◌, ◌⊎◌, ℕ, ◌+◌, ◌≤◌, IfErr, IfOk, List, map, OnErr, string_bytes, Some, None};
+ghost use Rattle.std.specs.Prelude.{◌≡◌, ℕ, ◌≤◌, IfErr, IfOk, List, map, OnErr, string_bytes, None};
 ghost use Rattle.link_io.specs.Outside.{Rose};
 ghost use Rattle.nbserve.specs.Execution.{Carried, IsDone, IsPlayed};
-ghost use Rattle.script_run.specs.Cut.{IsCutOff};
-ghost use Rattle.script_run.specs.Prefix.{WrotePrefix};
 ghost use Rattle.nbserve.specs.CommandFault.{IsStopped, IsUnloaded, IsUnplayed, IsUnread};
-ghost use Rattle.nbserve.specs.Works.{Works, label_of, last_of};
 ghost use Rattle.nbserve.specs.Output.{RunsTo};
-ghost use Rattle.visit_meaning.specs.Answer.{Before, Message, parts_from, work};
+ghost use Rattle.nbserve.specs.Shows.{Shows};
+ghost use Rattle.visit_meaning.specs.Answer.{Message};
 ghost use Rattle.visit_meaning.specs.Messages.{AreMessages};
-ghost use Rattle.program_meaning.specs.Program as program;
-ghost use Rattle.program_meaning.specs.Program.{command_of, notebook_of, AreRead, IsAccepted, IsLoaded, IsRefused, read_of, usual_budget};
+ghost use Rattle.program_meaning.specs.Program.{AreRead, IsLoaded, command_of};
 ghost use Rattle.visit_meaning.specs.Runnable.{Runnable};
-ghost use Rattle.program_meaning.specs.Scripts.{IsNoScript};
-ghost use Rattle.py_tree.specs.Trees.{Cell};
 ghost use Rattle.py_tree.specs.View.{view_cells};
 
 use crate::command::{Command, read_command};
@@ -190,67 +185,10 @@ pub fn run_words<F: Files, O: Sink, L: Ledger>(
     ensures writes_later { O.faults out.old ≤ O.faults out.new }
     ensures untouched { command_of (map string_bytes words.now) ≡ None → files.new ≡ files.old }
 
-    // All below follows from these. A status is one of seven.
-    ensures range { result ≤ 6 }
-
-    // A fault has its cause.
-    ensures read { result ≡ 3 → Rose (F.faults files.old) (F.faults files.new) }
-    ensures write { result ≡ 4 → Rose (O.faults out.old) (O.faults out.new) }
-
-    // Words that are no form are answered so, unless that can't be written.
-    ensures usage { command_of (map string_bytes words.now) ≡ None → (result ≡ 2) ⊎ (result ≡ 4)
-        ⊎ (result ≡ 5) }
-
-    // A command that can be carried out is, unless a fault comes or memory is wanting.
-    ensures accepted { (nb : List Cell) (ms : List Message)
-        → Works (F.holds files.old) (map string_bytes words.now) nb ms
-        → (result ≡ 0) ⊎ (result ≡ 3) ⊎ (result ≡ 4) ⊎ (result ≡ 5) }
-
-    // Where no count of faults rises or stands at its end, it is carried out, or memory is wanting.
-    ensures complete { (nb : List Cell) (ms : List Message)
-        → Works (F.holds files.old) (map string_bytes words.now) nb ms
-        → (Rose (F.faults files.old) (F.faults files.new) → ⊥)
-        → (Rose (O.faults out.old) (O.faults out.new) → ⊥)
-        → (result ≡ 0) ⊎ (result ≡ 5) }
-
-    // The steps of all cells that run for its messages are counted.
-    ensures steps { result ≡ 0 → (nb : List Cell) (ms : List Message)
-        → Works (F.holds files.old) (map string_bytes words.now) nb ms
-        → steps.new ≡ steps.old + work nb usual_budget ms }
-
-    // Where a write fails, and the count of read faults neither rises nor stands at its end, the text of a command that can be carried out is cut
-    // in the line of a frame, with the steps up to this frame counted and no later ones, or in its last line: all before was written, and not
-    // all of it.
-    ensures cut { result ≡ 4 → (asked : program.Command) (nb : List Cell) (ms : List Message)
-        → command_of (map string_bytes words.now) ≡ Some asked
-        → Works (F.holds files.old) (map string_bytes words.now) nb ms
-        → (Rose (F.faults files.old) (F.faults files.new) → ⊥)
-        → IsCutOff (label_of asked) (last_of asked) (parts_from nb usual_budget Before ms)
-        (O.taken out.old) (O.taken out.new) steps.old steps.new }
-
-    // Where memory is wanting, whole lines of a prefix of its frames were written, and nothing else.
-    ensures prefix { result ≡ 5 → (asked : program.Command) (nb : List Cell) (ms : List Message)
-        → command_of (map string_bytes words.now) ≡ Some asked
-        → Works (F.holds files.old) (map string_bytes words.now) nb ms
-        → WrotePrefix (label_of asked) (parts_from nb usual_budget Before ms)
-        (O.taken out.old) (O.taken out.new) steps.old steps.new }
-
-    // A notebook that isn't accepted is refused, unless a fault comes or memory is wanting.
-    ensures refused { (asked : program.Command) (all : List ℕ)
-        → command_of (map string_bytes words.now) ≡ Some asked
-        → F.holds files.old (notebook_of asked) ≡ Some (Some all) → IsRefused (read_of all)
-        → (result ≡ 1) ⊎ (result ≡ 3) ⊎ (result ≡ 4) ⊎ (result ≡ 5) }
-
-    // Bytes that are no script are answered so, where the notebook is accepted, unless a fault comes or memory is wanting.
-    ensures no_script { (file script all text : List ℕ) (nb : List Cell)
-        → command_of (map string_bytes words.now) ≡ Some (program.Play file script)
-        → F.holds files.old file ≡ Some (Some all) → IsAccepted (read_of all) nb
-        → F.holds files.old script ≡ Some (Some text) → IsNoScript (read_of text)
-        → (result ≡ 6) ⊎ (result ≡ 3) ⊎ (result ≡ 4) ⊎ (result ≡ 5) }
-
-    // No step is counted where a test isn't passed.
-    ensures unrun { (result ≡ 1) ⊎ (result ≡ 2) ⊎ (result ≡ 3) ⊎ (result ≡ 6)
-        → steps.new ≡ steps.old }
+    // What follows from `runs` for a status, a command or a file alone.
+    ensures shows { Shows (F.holds files.old) (Rose (F.faults files.old) (F.faults files.new))
+        (Rose (O.faults out.old) (O.faults out.new))
+        (map string_bytes words.now) result (O.taken out.old) (O.taken out.new) steps.old steps.new }
 {
     match carry_out(alloc, words, files, out, steps) {
         Ok(status) => status,

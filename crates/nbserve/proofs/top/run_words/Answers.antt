@@ -6,7 +6,7 @@ use Rattle.link_io.proofs.Taken.{took_none}
 use Rattle.nbserve.specs.Output as output
 use Rattle.nbserve.specs.Output.{RunsTo}
 use Rattle.nbserve.specs.declared.command_fault.CommandFault.TheVariants as stop
-use Rattle.nbserve.proofs.Output.{runs_accepted, runs_complete, runs_cut, runs_prefix, runs_no_script, runs_range, runs_read, runs_refused, runs_steps, runs_unrun, runs_usage, runs_write, stopped_runs}
+use Rattle.nbserve.proofs.Output.{runs_show, stopped_runs}
 use Rattle.nbserve.proofs.top.run_words.Goals as goal
 
 pub returns-in-Ok : goal.returns-in-Ok
@@ -20,18 +20,7 @@ returns-in-Ok g c =
       later = c.carry_out.ensures.later;
       writes_later = c.carry_out.ensures.writes_later;
       untouched = c.carry_out.ensures.untouched;
-      range = runs_range _ _ _ _ _ _ _ _ _ runs;
-      read = runs_read _ _ _ _ _ _ _ _ _ runs;
-      write = runs_write _ _ _ _ _ _ _ _ _ runs;
-      usage = runs_usage _ _ _ _ _ _ _ _ _ runs;
-      accepted = runs_accepted _ _ _ _ _ _ _ _ _ runs;
-      complete = runs_complete _ _ _ _ _ _ _ _ _ runs;
-      steps = runs_steps _ _ _ _ _ _ _ _ _ runs;
-      cut = runs_cut _ _ _ _ _ _ _ _ _ runs;
-      prefix = runs_prefix _ _ _ _ _ _ _ _ _ runs;
-      refused = runs_refused _ _ _ _ _ _ _ _ _ runs;
-      no_script = runs_no_script _ _ _ _ _ _ _ _ _ runs;
-      unrun = runs_unrun _ _ _ _ _ _ _ _ _ runs;
+      shows = runs_show _ _ _ _ _ _ _ _ _ runs;
     }
 
 pub returns-in-Err : goal.returns-in-Err
@@ -54,16 +43,5 @@ returns-in-Err g c =
       later = c.carry_out.ensures.later;
       writes_later = omega (arith, c.carry_out.ensures.writes_later, c.end_stopped.ensures.writes_later);
       untouched = c.carry_out.ensures.untouched;
-      range = runs_range _ _ _ _ _ _ _ _ _ runs;
-      read = runs_read _ _ _ _ _ _ _ _ _ runs;
-      write = runs_write _ _ _ _ _ _ _ _ _ runs;
-      usage = runs_usage _ _ _ _ _ _ _ _ _ runs;
-      accepted = runs_accepted _ _ _ _ _ _ _ _ _ runs;
-      complete = runs_complete _ _ _ _ _ _ _ _ _ runs;
-      steps = runs_steps _ _ _ _ _ _ _ _ _ runs;
-      cut = runs_cut _ _ _ _ _ _ _ _ _ runs;
-      prefix = runs_prefix _ _ _ _ _ _ _ _ _ runs;
-      refused = runs_refused _ _ _ _ _ _ _ _ _ runs;
-      no_script = runs_no_script _ _ _ _ _ _ _ _ _ runs;
-      unrun = runs_unrun _ _ _ _ _ _ _ _ _ runs;
+      shows = runs_show _ _ _ _ _ _ _ _ _ runs;
     }
