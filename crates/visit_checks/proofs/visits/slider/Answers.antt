@@ -5,7 +5,7 @@ use Rattle.py_tree.specs.View.{view_cell, view_cells}
 use Rattle.visit_meaning.specs.Runnable.{Runnable}
 use Rattle.thin_runs.proofs.ThinCode.{thin_few}
 use Rattle.thin_runs.proofs.ThinRuns.{thin_runnable}
-use Rattle.checks.proofs.visits.slider.Goals as goal
+use Rattle.visit_checks.proofs.visits.slider.Goals as goal
 
 pub notebook-requires : goal.notebook-requires
 notebook-requires c =
