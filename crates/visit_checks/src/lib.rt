@@ -5,4 +5,6 @@
 #[cfg(test)]
 mod frame_texts;
 #[cfg(test)]
+mod sessions;
+#[cfg(test)]
 mod visits;

@@ -47,7 +47,8 @@ enum Call<'a> {
 
 use Call::{Deliver, Newest, Pending, Present, Step};
 
-fn slider(alloc: Global) -> Option<Notebook>
+// The notebook of this file.
+pub(crate) fn slider(alloc: Global) -> Option<Notebook>
     ensures { IfSome result (λ nb. Runnable (view_cells nb)) }
 {
     let Ok(cells) = thin(alloc, SLIDER) else {

@@ -1,0 +1,110 @@
+// Visitors who are served over links. The texts that are wanted are written by hand.
+ghost use Rattle.std.specs.Prelude.{◌≡◌, ◌<◌};
+ghost use Rattle.py_tree.specs.View.{view_cells};
+ghost use Rattle.visit_meaning.specs.Runnable.{Runnable};
+
+use cell_graph::Notebook;
+use kernel::Kernel;
+use link_io::{Link, MemLink};
+use py_eval::Steps;
+use py_value::Memory;
+use session::{Ended, serve_visitor};
+use std::alloc::{AllocError, Global};
+use std::marker::Brand;
+use std::sync::Wait;
+use std::sync::ledger::{Blank, Ledger};
+use std::test::Fail;
+
+use crate::visits::slider;
+
+const BUDGET: u64 = 200_000;
+
+fn serve<R: Wait, K: Link, L: Ledger>(
+    rt: &R,
+    alloc: Global,
+    notebook: &Notebook,
+    link: &mut K,
+    blank: Blank,
+) -> Result<Ended, Memory>
+    requires runnable { Runnable (view_cells notebook.now) }
+    requires new { (blank.name ≡ L.name) × (blank.parts ≡ L.parts) × (0 < blank.parts) }
+{
+    let mut kernel = Kernel::open(alloc, notebook, BUDGET)?;
+    let mut steps = Steps::<L>::new(blank);
+    Ok(serve_visitor(rt, alloc, &mut kernel, link, &mut steps))
+}
+
+// How the session of a visitor ends who comes over this link.
+fn ended_over<R: Wait, K: Link>(
+    rt: &R,
+    alloc: Global,
+    notebook: &Notebook,
+    link: &mut K,
+) -> Result<Ended, Memory>
+    requires { Runnable (view_cells notebook.now) }
+{
+    serve::<R, K, Brand>(rt, alloc, notebook, link, Blank::new(1))
+}
+
+// A visitor who opens the notebook, sends what is no text and a value, and closes; another message stands behind.
+fn messages(alloc: Global) -> Result<Vec<Option<Vec<u8>>>, AllocError> {
+    Ok(Vec::from_array(
+        alloc,
+        [
+            Some(Vec::from_slice(alloc, b"{\"open\":{}}")?),
+            None,
+            Some(Vec::from_slice(alloc, b"{\"set\":{\"s\":4}}")?),
+            Some(Vec::from_slice(alloc, b"{\"close\":{}}")?),
+            Some(Vec::from_slice(alloc, b"{\"open\":{}}")?),
+        ],
+    )?)
+}
+
+// The texts that this visitor is sent, in the order in which they are sent.
+const TEXTS: [&[u8]; 8] = [
+    b"{\"cell\":0,\"console\":[],\"error\":null,\"output\":null,\"status\":\"ok\"}",
+    b"{\"cell\":1,\"console\":[],\"error\":null,\"output\":null,\"status\":\"ok\"}",
+    b"{\"cell\":2,\"console\":[],\"error\":null,\"output\":{\"text\":\"1\",\"type\":\"plain\"},\"status\":\"ok\"}",
+    b"{\"done\":3}",
+    b"{\"refused\":\"message\"}",
+    b"{\"done\":0}",
+    b"{\"cell\":2,\"console\":[],\"error\":null,\"output\":{\"text\":\"5\",\"type\":\"plain\"},\"status\":\"ok\"}",
+    b"{\"done\":1}",
+];
+
+// What is known of a session whose calls of these numbers fail: how it ended, how many texts were sent, whether they are the first ones that
+// are wanted, how many messages were taken, and how often a call failed.
+fn outcome<R: Wait>(
+    rt: &R,
+    alloc: Global,
+    notebook: &Notebook,
+    failing_recvs: &[u64],
+    failing_sends: &[u64],
+) -> Result<(Ended, usize, bool, usize, u64), Memory>
+    requires { Runnable (view_cells notebook.now) }
+{
+    let mut link = MemLink::new(alloc, messages(alloc)?);
+    link.failing_recvs = Vec::from_slice(alloc, failing_recvs)?;
+    link.failing_sends = Vec::from_slice(alloc, failing_sends)?;
+    let ended = ended_over(rt, alloc, notebook, &mut link)?;
+    let mut as_wanted = true;
+    for (sent, wanted) in link.sent.iter().zip(TEXTS.iter()) {
+        as_wanted = as_wanted && sent.as_slice() == *wanted;
+    }
+    Ok((ended, link.sent.len(), as_wanted, link.taken, link.faults))
+}
+
+#[test]
+fn serves_visitors(rt: HostRuntime) -> Result<(), Fail> {
+    let alloc = rt.alloc();
+    let notebook = slider(alloc).ok_or("refused")?;
+    assert_eq!(rt; outcome(&rt, alloc, &notebook, &[], &[])?, (Ended::Closed, 8, true, 4, 0));
+    assert_eq!(rt; outcome(&rt, alloc, &notebook, &[1], &[])?, (Ended::LinkFault, 0, true, 0, 1));
+    assert_eq!(rt; outcome(&rt, alloc, &notebook, &[2], &[])?, (Ended::LinkFault, 4, true, 1, 1));
+    assert_eq!(rt; outcome(&rt, alloc, &notebook, &[5], &[])?, (Ended::Closed, 8, true, 4, 0));
+    for call in 1..5_u64 {
+        let wanted = (Ended::LinkFault, call as usize - 1, true, 1, 1);
+        assert_eq!(rt; outcome(&rt, alloc, &notebook, &[], &[call])?, wanted);
+    }
+    Ok(())
+}
