@@ -31,10 +31,16 @@ pub lets_first : (ws rest : List MemLink) (parted : List Parted) (w v : MemLink)
     → accepted.Visitor w ≡ accepted.Visitor v
     → (v.faults ≡ 0) × Lets (Some (record { waiting = map items_of ws; parted = parted })) (Some (record { waiting = map items_of rest; parted = parted })) (Some (told_of v))
 lets_first ws rest parted w v some is left f same =
-    subst (λ u. (u.faults ≡ 0) × Lets (Some (record { waiting = map items_of ws; parted = parted })) (Some (record { waiting = map items_of rest; parted = parted })) (Some (told_of u))) (same_visitor w v same)
-    (f.faults, (items_of w, map items_of rest,
-     first_is ws w some ∙ (λ i. items_of (sym is i) ∷ map items_of (sym left i)),
-     ap (λ t. Some t) (told_fresh w f), refl))
+    subst (λ u. (u.faults ≡ 0) × Lets (Some (record { waiting = map items_of ws; parted = parted })) (Some (record { waiting = map items_of rest; parted = parted })) (Some (told_of u))) (same_visitor w v same) (
+      f.faults,
+      (
+        items_of w,
+        map items_of rest,
+        first_is ws w some ∙ (λ i. items_of (sym is i) ∷ map items_of (sym left i)),
+        ap (λ t. Some t) (told_fresh w f),
+        refl,
+      ),
+    )
 
 pub unused_first : (w v : MemLink) → IsFresh w → accepted.Visitor w ≡ accepted.Visitor v → IsUnused (Some (told_of v))
 unused_first w v f same =
