@@ -28,6 +28,13 @@ impl<N: Net<Listener = TcpListener, Stream = TcpStream>> TcpPorch<N> {
             faults: 0,
         }
     }
+
+    /// How often a call failed, or took back doors of which one had failed. It stands still at 2^64 - 1.
+    pub fn faults(&self) -> u64
+        ensures { result ≡ self.now.faults }
+    {
+        self.faults
+    }
 }
 
 impl<N: Net<Listener = TcpListener, Stream = TcpStream>> Porch for TcpPorch<N> {

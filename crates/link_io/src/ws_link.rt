@@ -31,6 +31,13 @@ impl WsLink {
         }
     }
 
+    /// How often a call failed. It stands still at 2^64 - 1.
+    pub fn faults(&self) -> u64
+        ensures { result ≡ self.now.faults }
+    {
+        self.faults
+    }
+
     /// Closes the link with a close frame (RFC 6455, section 5.5.1), where the visitor still takes one. It waits for no answer; where the
     /// frame can't be sent, the connection ends without it.
     pub fn close(mut self) {

@@ -1,5 +1,5 @@
 -- The first doors are given, and the others are left.
-use Rattle.std.proofs.Common.{◌≡◌, ◌∙◌, refl, ap, rules, arith, map, ◌++◌}
+use Rattle.std.proofs.Common.{◌≡◌, ◌∙◌, refl, ap, arith, map, ◌++◌}
 use Rattle.std.proofs.lemmas.Grind.{common_steps}
 use Rattle.std.proofs.lemmas.List.{map-append}
 use Rattle.link_io.specs.MemDoors.{seen_of}
