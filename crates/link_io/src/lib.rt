@@ -1,4 +1,5 @@
-//! The outside, as the program sees it: files that are read, a place that is written to, and links to visitors, in memory and real.
+//! The outside, as the program sees it: files that are read, a place that is written to, and visitors, in memory and real. Visitors come
+//! through doors, which a porch gives, and each has a link.
 #![tactic(auto)]
 
 mod answers;

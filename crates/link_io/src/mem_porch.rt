@@ -9,7 +9,7 @@ use crate::porch::Porch;
 use std::alloc::Global;
 use std::mem;
 
-/// A porch in memory. It fails where it is asked for more doors than it still has to give, and tells all ports the same.
+/// A porch in memory. It fails where it is asked for more doors than it still has to give, whatever the port is.
 #[derive(Debug, Drop)]
 pub struct MemPorch {
     pub faults: u64,

@@ -1,5 +1,5 @@
 // Doors in memory: what their calls do.
-ghost use Rattle.std.specs.Prelude.{◌≡◌, All, Some, IfOk};
+ghost use Rattle.std.specs.Prelude.{◌≡◌, [], All, Some, IfOk};
 ghost use Rattle.link_io.specs.MemDoors.{IsNewDoor, row_of};
 ghost use Rattle.link_io.specs.MemLinks.{IsFresh};
 
@@ -16,6 +16,7 @@ impl MemDoor {
         requires { All IsFresh waiting.items }
         ensures new { IfOk result (λ door. IsNewDoor door) }
         ensures waiting { IfOk result (λ door. door.waiting ≡ waiting) }
+        ensures sound { IfOk result (λ door. door.failing.items ≡ []) }
     {
         let mut parted = Vec::new(alloc);
         parted.reserve(waiting.len())?;
