@@ -25,3 +25,25 @@ pub enum Sent {
     /// Memory was wanting.
     Memory,
 }
+
+/// What a door gave.
+#[derive(Debug, Drop)]
+pub enum Accepted<V> {
+    /// The next visitor's link.
+    Visitor(V),
+    /// No visitor is left to come.
+    NoMore,
+    /// The door failed.
+    Failed,
+    /// Memory was wanting.
+    Memory,
+}
+
+/// Why a porch gave no doors.
+#[derive(Clone, Copy, Debug, PartialEq, Eq)]
+pub enum PorchFault {
+    /// The porch failed.
+    Failed,
+    /// Memory was wanting.
+    Memory,
+}

@@ -21,4 +21,4 @@ returns-in-Ok-clause-took c =
     takes_at (option_map (λ v. v.items)) c.args.self.now.messages.items at x (Some c.in-Ok.copy.items) (map (λ v. v.items) c.args.self.now.sent.items)
     (omega (arith, c.if-self-messages.false, ap (λ s. length s) c.as_slice-messages.ensures.value))
     (ap (option_map (λ v. v.items)) (sym here) ∙ ap (option_map (λ v. v.items)) c.in-Some.is
-      ∙ ap (λ t. Some t) (sym (c.in-Ok.ensures.items ∙ c.as_slice.ensures.value)))
+    ∙ ap (λ t. Some t) (sym (c.in-Ok.ensures.items ∙ c.as_slice.ensures.value)))
