@@ -42,6 +42,8 @@ pub parts_begin : (v : Visit) (done left : List (List ℕ)) (ks ms : List Messag
 parts_begin v done left ks ms a b =
     let nb : List Cell = view_cells v.nb in
     let rest = messages_begin done left ks ms a b in
-    let more = parts_from nb v.budget (state_after nb v.budget v.state ks) rest.0 in
-    (more, append_assoc v.pending (parts_from nb v.budget v.state ks) more
-      ∙ ap (λ ps. v.pending ++ ps) (sym (parts_append nb v.budget v.state ks rest.0) ∙ ap (parts_from nb v.budget v.state) (sym rest.1)))
+    let more = parts_from nb v.budget (state_after nb v.budget v.state ks) rest.0 in (
+      more,
+      append_assoc v.pending (parts_from nb v.budget v.state ks) more
+          ∙ ap (λ ps. v.pending ++ ps) (sym (parts_append nb v.budget v.state ks rest.0) ∙ ap (parts_from nb v.budget v.state) (sym rest.1)),
+    )

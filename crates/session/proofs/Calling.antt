@@ -169,10 +169,13 @@ pub answered_next : {v : Visit} {count : ℕ} {before : Option Told} {items : Li
     → Drains w count_mid heard (bytes ∷ []) x count_after now → Answered v count before (items ++ m ∷ []) x count_after now
 answered_next {v = v} {count = count} {before = before} {items = items} {w = w} {count_mid = count_mid} {mid = mid} m bytes heard x count_after now so_far is no_close taken d =
     let first = went_both so_far.0 (went_heard w count_mid mid (m ∷ []) heard taken) in
-    let all = went_both first d.went in
-    (subst (λ bs. Went v count before bs (items ++ m ∷ []) x count_after now) (bytes_more items m bytes is)
-      (subst (λ js. Went v count before ((map bytes_of items ++ []) ++ bytes ∷ []) js x count_after now) (append-nil (items ++ m ∷ [])) all),
-     d.over, d.stands, unclosed_more items m so_far.3 no_close)
+    let all = went_both first d.went in (
+      subst (λ bs. Went v count before bs (items ++ m ∷ []) x count_after now) (bytes_more items m bytes is)
+          (subst (λ js. Went v count before ((map bytes_of items ++ []) ++ bytes ∷ []) js x count_after now) (append-nil (items ++ m ∷ [])) all),
+      d.over,
+      d.stands,
+      unclosed_more items m so_far.3 no_close,
+    )
 
 -- one more message, whose answer isn't sent to its end
 pub breaks_next : {v : Visit} {count : ℕ} {before : Option Told} {items : List Item} {w : Visit} {count_mid : ℕ} {mid : Option Told} {why : Unsent}
@@ -199,7 +202,7 @@ breaks_here {v = v} {count = count} {before = before} {items = items} {w = w} {c
       left = [];
       went = subst (λ bs. Went v count before bs items w count_mid now) (append-nil (map bytes_of items))
           (subst (λ js. Went v count before (map bytes_of items ++ []) js w count_mid now) (append-nil items)
-            (went_both so_far.0 (went_heard w count_mid mid [] now talked)));
+          (went_both so_far.0 (went_heard w count_mid mid [] now talked)));
       are = sym (append-nil (map bytes_of items));
       most = (omega arith, omega arith);
       exact = λ failed. (refl, omega arith);

@@ -123,17 +123,21 @@ counts_cut {v = v} {count = count} unsent.Failed items b unclosed =
     let exact = b.exact refl in
     let steps = exact.1 in
     let so_far = counted_at b in
-    let c = broke_exactly b exact.0 unclosed in
-    (c, λ ms are.
-      let sent : cost_of_parts (c.begin ms are).sent ≡ cost_of_parts (goes_on b.went.calls v b.at count b.count_at b.went.led).parts = refl in
-      let rest : first_cost (c.begin ms are).rest ≡ first_cost b.at.pending = refl in
-      omega arith)
+    let c = broke_exactly b exact.0 unclosed in (
+      c,
+      λ ms are.
+          let sent : cost_of_parts (c.begin ms are).sent ≡ cost_of_parts (goes_on b.went.calls v b.at count b.count_at b.went.led).parts = refl in
+          let rest : first_cost (c.begin ms are).rest ≡ first_cost b.at.pending = refl in
+          omega arith,
+    )
 counts_cut {v = v} {count = count} unsent.Memory items b unclosed =
     let least = b.most.0 in
     let most = b.most.1 in
     let so_far = counted_at b in
-    let c = broke b unclosed in
-    (c, λ ms are.
-      let sent : cost_of_parts (c.begin ms are).sent ≡ cost_of_parts (goes_on b.went.calls v b.at count b.count_at b.went.led).parts = refl in
-      let later : first_cost b.at.pending ≤ first_cost (c.begin ms are).rest = first_within b.at.pending _ in
-      (omega arith, omega arith))
+    let c = broke b unclosed in (
+      c,
+      λ ms are.
+          let sent : cost_of_parts (c.begin ms are).sent ≡ cost_of_parts (goes_on b.went.calls v b.at count b.count_at b.went.led).parts = refl in
+          let later : first_cost b.at.pending ≤ first_cost (c.begin ms are).rest = first_within b.at.pending _ in
+          (omega arith, omega arith),
+    )

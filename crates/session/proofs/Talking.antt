@@ -12,9 +12,11 @@ talked_none (Some o) =
 pub talked_both : (a b c : Option Told) (xs ys : List Item) (s t : List (List ℕ)) → Talked a b xs s → Talked b c ys t → Talked a c (xs ++ ys) (s ++ t)
 talked_both None b c xs ys s t f h = tt
 talked_both (Some o) b c xs ys s t f h =
-    let g = subst (λ z. Talked z c ys t) f.2 h in
-    (g.0, f.1 ∙ ap (λ l. xs ++ l) g.1 ∙ sym (append_assoc xs ys g.0),
-     g.2 ∙ (λ i. Some (record { taken = append_assoc o.taken xs ys i; left = g.0; sent = append_assoc o.sent s t i })))
+    let g = subst (λ z. Talked z c ys t) f.2 h in (
+      g.0,
+      f.1 ∙ ap (λ l. xs ++ l) g.1 ∙ sym (append_assoc xs ys g.0),
+      g.2 ∙ (λ i. Some (record { taken = append_assoc o.taken xs ys i; left = g.0; sent = append_assoc o.sent s t i })),
+    )
 
 -- ---- what the calls of a link do
 

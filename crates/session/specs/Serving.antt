@@ -69,11 +69,11 @@ Counts ended.Closed v before count count_after now =
 Counts ended.TooMany v before count count_after now = (items : List Item) × IsCounted v before items count count_after now
 Counts ended.LinkFault v before count count_after now = (c : IsCutShort v before now)
     × ((ms : List Message) (are : AreMessages (map bytes_of c.items) ms)
-      → count_after ≡ count + cost_of_parts (c.begin ms are).sent + first_cost (c.begin ms are).rest)
+    → count_after ≡ count + cost_of_parts (c.begin ms are).sent + first_cost (c.begin ms are).rest)
 Counts ended.Memory v before count count_after now = (c : IsCutShort v before now)
     × ((ms : List Message) (are : AreMessages (map bytes_of c.items) ms)
-      → (count + cost_of_parts (c.begin ms are).sent ≤ count_after)
-      × (count_after ≤ count + cost_of_parts (c.begin ms are).sent + first_cost (c.begin ms are).rest))
+    → (count + cost_of_parts (c.begin ms are).sent ≤ count_after)
+    × (count_after ≤ count + cost_of_parts (c.begin ms are).sent + first_cost (c.begin ms are).rest))
 
 -- what was sent over a link are the texts of the frames of a visitor alone who sends these messages
 pub record SentSolo (nb : List CellCode) (budget : ℕ) (items : List Item) (now : Told) : Type 0 where

@@ -77,9 +77,14 @@ pub fn serve_visitor<'n, R: Wait, K: Link, L: Ledger>(
     for _ in 0..MESSAGE_COUNT_LIMIT {
         match hear(alloc, link) {
             Heard::Message(bytes) => {
-                if let Err(why) =
-                    answer_message(alloc, kernel, bytes.as_slice(), &mut text, link, steps)
-                {
+                if let Err(why) = answer_message(
+                    alloc,
+                    kernel,
+                    bytes.as_slice(),
+                    &mut text,
+                    link,
+                    steps,
+                ) {
                     return ended_of(why);
                 }
             }

@@ -3,6 +3,7 @@ ghost use Rattle.std.specs.Prelude.{◌≡◌, ◌<◌};
 ghost use Rattle.py_tree.specs.View.{view_cells};
 ghost use Rattle.visit_meaning.specs.Runnable.{Runnable};
 
+use crate::visits::slider;
 use cell_graph::Notebook;
 use kernel::Kernel;
 use link_io::{Link, MemLink};
@@ -14,8 +15,6 @@ use std::marker::Brand;
 use std::sync::Wait;
 use std::sync::ledger::{Blank, Ledger};
 use std::test::Fail;
-
-use crate::visits::slider;
 
 const BUDGET: u64 = 200_000;
 
@@ -98,10 +97,22 @@ fn outcome<R: Wait>(
 fn serves_visitors(rt: HostRuntime) -> Result<(), Fail> {
     let alloc = rt.alloc();
     let notebook = slider(alloc).ok_or("refused")?;
-    assert_eq!(rt; outcome(&rt, alloc, &notebook, &[], &[])?, (Ended::Closed, 8, true, 4, 0));
-    assert_eq!(rt; outcome(&rt, alloc, &notebook, &[1], &[])?, (Ended::LinkFault, 0, true, 0, 1));
-    assert_eq!(rt; outcome(&rt, alloc, &notebook, &[2], &[])?, (Ended::LinkFault, 4, true, 1, 1));
-    assert_eq!(rt; outcome(&rt, alloc, &notebook, &[5], &[])?, (Ended::Closed, 8, true, 4, 0));
+    assert_eq!(rt;
+        outcome(&rt, alloc, &notebook, &[], &[])?,
+        (Ended::Closed, 8, true, 4, 0)
+    );
+    assert_eq!(rt;
+        outcome(&rt, alloc, &notebook, &[1], &[])?,
+        (Ended::LinkFault, 0, true, 0, 1)
+    );
+    assert_eq!(rt;
+        outcome(&rt, alloc, &notebook, &[2], &[])?,
+        (Ended::LinkFault, 4, true, 1, 1)
+    );
+    assert_eq!(rt;
+        outcome(&rt, alloc, &notebook, &[5], &[])?,
+        (Ended::Closed, 8, true, 4, 0)
+    );
     for call in 1..5_u64 {
         let wanted = (Ended::LinkFault, call as usize - 1, true, 1, 1);
         assert_eq!(rt; outcome(&rt, alloc, &notebook, &[], &[call])?, wanted);

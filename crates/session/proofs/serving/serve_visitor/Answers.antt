@@ -15,10 +15,12 @@ loop-preserved g c =
     let heard = rw c.in-Message.is at c.hear.ensures.hears in
     let long = so_far.1 in (
       omega (arith, c.loop.invariant.0, c.hear.ensures.later, c.in_default-answer_message.ensures.later),
-      (so_far.0 ++ heard.0 ∷ [],
-       omega (arith, length-append so_far.0 (heard.0 ∷ []), long),
-       answered_next heard.0 c.as_slice.result.now (g.K.Link.told c.hear.new.link) c.answer_message.new.kernel c.answer_message.new.steps (g.K.Link.told c.answer_message.new.link)
-       so_far.2 (heard.1 ∙ sym c.as_slice.ensures.value) heard.2 heard.3 c.in_default-answer_message.ensures.answered),
+      (
+        so_far.0 ++ heard.0 ∷ [],
+        omega (arith, length-append so_far.0 (heard.0 ∷ []), long),
+        answered_next heard.0 c.as_slice.result.now (g.K.Link.told c.hear.new.link) c.answer_message.new.kernel c.answer_message.new.steps (g.K.Link.told c.answer_message.new.link)
+            so_far.2 (heard.1 ∙ sym c.as_slice.ensures.value) heard.2 heard.3 c.in_default-answer_message.ensures.answered,
+      ),
     )
 
 pub returns-in-Err-clause-serves : goal.returns-in-Err-clause-serves
@@ -40,7 +42,7 @@ returns-in-Err-answer_message-clause-serves g c =
     let heard = rw c.in-Message.is at c.hear.ensures.hears in
     let now = g.K.Link.told c.answer_message.new.link in
     let broke = breaks_next heard.0 c.as_slice.result.now (g.K.Link.told c.hear.new.link) c.answer_message.new.steps now
-        so_far.2 (heard.1 ∙ sym c.as_slice.ensures.value) heard.3 c.in-Err-answer_message.ensures.broke in
+    so_far.2 (heard.1 ∙ sym c.as_slice.ensures.value) heard.3 c.in-Err-answer_message.ensures.broke in
     subst (λ end. Serves end c.args.kernel.now told c.answer_message.new.kernel now) (sym c.ended_of-in-Err-answer_message.ensures)
     (serves_cut c.in-Err-answer_message.why (so_far.0 ++ heard.0 ∷ []) c.answer_message.new.kernel broke (unclosed_more so_far.0 heard.0 so_far.2.3 heard.2))
 
@@ -51,7 +53,7 @@ returns-in-Err-answer_message-clause-steps g c =
     let heard = rw c.in-Message.is at c.hear.ensures.hears in
     let now = g.K.Link.told c.answer_message.new.link in
     let broke = breaks_next heard.0 c.as_slice.result.now (g.K.Link.told c.hear.new.link) c.answer_message.new.steps now
-        so_far.2 (heard.1 ∙ sym c.as_slice.ensures.value) heard.3 c.in-Err-answer_message.ensures.broke in
+    so_far.2 (heard.1 ∙ sym c.as_slice.ensures.value) heard.3 c.in-Err-answer_message.ensures.broke in
     subst (λ end. Counts end c.args.kernel.now told c.args.steps.now c.answer_message.new.steps now) (sym c.ended_of-in-Err-answer_message.ensures)
     (counts_cut c.in-Err-answer_message.why (so_far.0 ++ heard.0 ∷ []) broke (unclosed_more so_far.0 heard.0 so_far.2.3 heard.2))
 

@@ -8,4 +8,4 @@ abbrev pub invariant-loop : goal.invariant-loop
 invariant-loop g l =
     (g.K.Link.faults l.fn.link ≤ g.K.Link.faults l.link)
     × ((items : List Item) × (length items ≡ l.counter)
-      × Answered l.fn.kernel l.fn.steps (g.K.Link.told l.fn.link) items l.kernel l.steps (g.K.Link.told l.link))
+    × Answered l.fn.kernel l.fn.steps (g.K.Link.told l.fn.link) items l.kernel l.steps (g.K.Link.told l.link))
