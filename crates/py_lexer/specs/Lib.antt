@@ -1,0 +1,5 @@
+pub mod Clean
+pub mod Cutting
+pub mod Digits
+pub mod Ends
+pub mod Views
