@@ -2,6 +2,8 @@
 pub mod SpanLoop
 pub mod NumberLoop
 pub mod HexNumbers
+-- For `format`.
+pub mod FormatSays
 -- For `plain`: the code's ends are those of the readers.
 pub mod EndLaws
 pub mod ItemEnds

@@ -1,7 +1,10 @@
 -- Numbers grow with each further digit.
 use Rattle.std.proofs.Common.{◌≡◌, ℕ, zero, suc, ◌+◌, ◌-◌, ◌*◌, ◌^◌, ◌≤◌, ◌<◌, Bool, true, false, cond, List, [], ◌∷◌, drop, length, get_or, Some, None, refl, arith}
-use Rattle.std.specs.Prelude.{fold, ◌==◌, nat_lt, nat_le}
+use Rattle.std.specs.Prelude.{fold, not, ◌&&◌, ◌==◌, nat_lt, nat_le}
 use Rattle.std.proofs.lemmas.Bool.Decides.{nat_tests}
+use Rattle.py_tree.specs.Names.{is_digit}
+use Rattle.lexical_form.specs.Numbers.{is_number, number_of, are_digits}
+use Rattle.lexical_form.proofs.Basics.{and_right}
 use Rattle.py_lexer.specs.Digits.{with_digit}
 
 abbrev pub number_step : ℕ → ℕ → ℕ
@@ -28,12 +31,14 @@ no_digit n c true b e f h = let none : Some n ≡ None = h in absurd cc
 no_digit n c false false e f h = let none : Some (10 * n + (c - 48)) ≡ None = h in absurd cc
 no_digit n c false true e f h = let l : 17014118346046923173168730371588410572 < n = grind (arith, nat_tests) in rw e (omega arith)
 
-pub too_great : (bytes : List ℕ) (i n all : ℕ) → i < length bytes → fold number_step n (drop i bytes) ≡ all → with_digit n (get_or bytes i 0) ≡ None → false ≡ nat_lt all (2 ^ 127)
+pub too_great : (bytes : List ℕ) (i n all : ℕ) → i < length bytes → fold number_step n (drop i bytes) ≡ all → with_digit n (get_or bytes i 0) ≡ None → None ≡ cond (nat_lt all (2 ^ 127)) (Some all) None
 too_great bytes i n all l e h =
     let c = get_or bytes i 0 in
     let more = no_digit n (get_or bytes i 0) (get_or bytes i 0 == 95) (nat_lt 17014118346046923173168730371588410572 n) refl refl h in
     let m = one_byte bytes i n l in
-    let k : 170141183460469231731687303715884105728 ≤ all = omega (arith, more, m, e) in grind (arith, nat_tests)
+    let k : 170141183460469231731687303715884105728 ≤ all = omega (arith, more, m, e) in
+    let no : nat_lt all (2 ^ 127) ≡ false = grind (arith, nat_tests) in
+    rw no refl
 
 pub beyond : (n : ℕ) (cs : List ℕ) (all : ℕ) → fold number_step n cs ≡ all → 200 < n → None ≡ cond (nat_le all 200) (Some all) None
 beyond n cs all e l =
@@ -41,3 +46,13 @@ beyond n cs all e l =
     let k : 200 < all = omega (arith, g, e, l) in
     let false_test : nat_le all 200 ≡ false = grind (arith, nat_tests) in
     rw false_test refl
+
+-- a number is in its range
+pub number_small : (cs : List ℕ) → is_number cs ≡ true → nat_lt (number_of cs) (2 ^ 127) ≡ true
+number_small [] h = let none : false ≡ true = h in absurd cc
+number_small (c ∷ []) h = one (c == 95) refl
+  where
+    one : (b : Bool) → (c == 95) ≡ b → nat_lt (cond b 0 (10 * 0 + (c - 48))) (2 ^ 127) ≡ true
+    one true e = refl
+    one false e = let digit : is_digit c ≡ true = h in grind (arith, nat_tests, digit)
+number_small (c ∷ d ∷ ds) h = and_right (are_digits false (c ∷ d ∷ ds) && not (c == 48)) (nat_lt (number_of (c ∷ d ∷ ds)) (2 ^ 127)) h

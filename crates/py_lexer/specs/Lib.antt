@@ -2,4 +2,5 @@ pub mod Clean
 pub mod Cutting
 pub mod Digits
 pub mod Ends
+pub mod FormatParts
 pub mod Views

@@ -10,7 +10,7 @@ ghost use Rattle.py_lexer.specs.Views.{quotes, plain_kind};
 use crate::marks::mark_len;
 use crate::numbers::is_number;
 use crate::texts::{Quotes, items};
-use crate::words::{is_quote, starts_quote, word};
+use crate::words::{is_digit, is_quote, starts_quote, word};
 
 /// What a token is that holds no other tokens.
 #[derive(Clone, Copy, Debug)]
@@ -153,7 +153,7 @@ pub fn plain(bytes: &[u8]) -> Found
     let [first, ..] = name else {
         return without_word(rest);
     };
-    if first.is_ascii_digit() {
+    if is_digit(*first) {
         return if is_number(name) {
             Some((PlainKind::Number, rest))
         } else {

@@ -1,6 +1,7 @@
 // Runs of bytes of names.
 ghost use Rattle.std.specs.Prelude.{◌≡◌};
 ghost use Rattle.py_tree.specs.Names.{continues_name};
+ghost use Rattle.py_tree.specs.Names as names;
 ghost use Rattle.lexical_form.specs.Bytes as kinds;
 ghost use Rattle.lexical_form.specs.Reading.{span};
 ghost use Rattle.lexical_form.specs.Bytes.{starts};
@@ -20,6 +21,12 @@ pub fn word(bytes: &[u8]) -> (&[u8], &[u8])
         len += 1;
     }
     bytes.split_at(len)
+}
+
+pub fn is_digit(byte: u8) -> bool
+    ensures { result ≡ names.is_digit byte }
+{
+    byte.is_ascii_digit()
 }
 
 pub fn is_quote(byte: u8) -> bool

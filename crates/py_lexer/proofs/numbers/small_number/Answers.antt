@@ -1,7 +1,7 @@
 use Rattle.std.proofs.Common.{◌∙◌, sym}
 use Rattle.lexical_form.specs.Numbers.{number_of}
 use Rattle.py_lexer.proofs.NumberLoop.{too_great}
-use Rattle.py_lexer.proofs.numbers.is_small.Goals as goal
+use Rattle.py_lexer.proofs.numbers.small_number.Goals as goal
 
 pub returns-in_default : goal.returns-in_default
 returns-in_default c =
