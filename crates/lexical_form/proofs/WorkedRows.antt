@@ -42,7 +42,7 @@ outcome bytes = let e = ends bytes in (is_readable bytes, (e.1, (State.brackets 
 abbrev pub spells : List Line → Outcome
 spells ls = (true, ([], ([], ls)))
 
-spelled_by : (bytes : List ℕ) (ls : List Line) → ◌≡◌ {A = Outcome} (outcome bytes) (spells ls) → Spelled bytes ls
+pub spelled_by : (bytes : List ℕ) (ls : List Line) → ◌≡◌ {A = Outcome} (outcome bytes) (spells ls) → Spelled bytes ls
 spelled_by bytes ls e = (
   ap (λ (o : Outcome). o.0) e,
   (ends bytes).0,

@@ -1,6 +1,6 @@
 -- Worked examples: small files with their logical lines, and others with the line at which they are refused. No definition speaks of them.
 -- Where the languages agree, Python's own `tokenize` (3.11) gives the same tokens, lines and indents.
-use Rattle.std.specs.Prelude.{◌≡◌, true, false, map, ℕ, List, [], ◌∷◌, codes, ⊤, Some, None}
+use Rattle.std.specs.Prelude.{◌≡◌, true, false, map, ℕ, List, [], ◌∷◌, ◌++◌, codes, ⊤, Some, None}
 use Rattle.lexical_form.specs.Tokens as tokens
 use Rattle.lexical_form.specs.Tokens.{Token, token, Piece, characters, field, pieces_of, tokens_of}
 use Rattle.lexical_form.specs.Texts.{escape, Quotes}
@@ -106,6 +106,33 @@ spelled_rows =
           ),
     )
     ∷ []
+
+-- ---- a notebook, written as marimo writes them
+abbrev pub notebook_file : List ℕ
+notebook_file =
+    codes "import marimo\n" ++ codes "\n" ++ codes "__generated_with = \"0.11.0\"\n" ++ codes "app = marimo.App(width=\"medium\")\n" ++ codes "\n" ++ codes "\n" ++ codes "@app.cell\n" ++ codes "def _():\n" ++ codes "    import marimo as mo\n" ++ codes "    return (mo,)\n" ++ codes "\n" ++ codes "\n" ++ codes "@app.cell\n" ++ codes "def _(mo):\n" ++ codes "    # how many\n" ++ codes "    count = mo.ui.slider(1, 5, label=\"count\")\n" ++ codes "    unit = mo.ui.dropdown(\n" ++ codes "        options=[\"cm\", \"m\"],\n" ++ codes "        value=\"cm\",\n" ++ codes "    )\n" ++ codes "    mo.vstack([count, unit])\n" ++ codes "    return count, unit\n" ++ codes "\n" ++ codes "\n" ++ codes "@app.cell(hide_code=True)\n" ++ codes "def _(count, mo, unit):\n" ++ codes "    mo.md(f\"\"\"**{count.value * 2}** {unit.value}\"\"\")\n" ++ codes "    return\n" ++ codes "\n" ++ codes "\n" ++ codes "if __name__ == \"__main__\":\n" ++ codes "    app.run()\n"
+
+abbrev pub notebook_lines : List Line
+notebook_lines =
+    line_of 1 0 (name (codes "import") ∷ name (codes "marimo") ∷ [])
+    ∷ line_of 3 0 (name (codes "__generated_with") ∷ mark (codes "=") ∷ text (codes "\"0.11.0\"") ∷ [])
+    ∷ line_of 4 0 (name (codes "app") ∷ mark (codes "=") ∷ name (codes "marimo") ∷ mark (codes ".") ∷ name (codes "App") ∷ mark (codes "(") ∷ name (codes "width") ∷ mark (codes "=") ∷ text (codes "\"medium\"") ∷ mark (codes ")") ∷ [])
+    ∷ line_of 7 0 (mark (codes "@") ∷ name (codes "app") ∷ mark (codes ".") ∷ name (codes "cell") ∷ [])
+    ∷ line_of 8 0 (name (codes "def") ∷ name (codes "_") ∷ mark (codes "(") ∷ mark (codes ")") ∷ mark (codes ":") ∷ [])
+    ∷ line_of 9 4 (name (codes "import") ∷ name (codes "marimo") ∷ name (codes "as") ∷ name (codes "mo") ∷ [])
+    ∷ line_of 10 4 (name (codes "return") ∷ mark (codes "(") ∷ name (codes "mo") ∷ mark (codes ",") ∷ mark (codes ")") ∷ [])
+    ∷ line_of 13 0 (mark (codes "@") ∷ name (codes "app") ∷ mark (codes ".") ∷ name (codes "cell") ∷ [])
+    ∷ line_of 14 0 (name (codes "def") ∷ name (codes "_") ∷ mark (codes "(") ∷ name (codes "mo") ∷ mark (codes ")") ∷ mark (codes ":") ∷ [])
+    ∷ line_of 16 4 (name (codes "count") ∷ mark (codes "=") ∷ name (codes "mo") ∷ mark (codes ".") ∷ name (codes "ui") ∷ mark (codes ".") ∷ name (codes "slider") ∷ mark (codes "(") ∷ number (codes "1") ∷ mark (codes ",") ∷ number (codes "5") ∷ mark (codes ",") ∷ name (codes "label") ∷ mark (codes "=") ∷ text (codes "\"count\"") ∷ mark (codes ")") ∷ [])
+    ∷ line_of 17 4 (name (codes "unit") ∷ mark (codes "=") ∷ name (codes "mo") ∷ mark (codes ".") ∷ name (codes "ui") ∷ mark (codes ".") ∷ name (codes "dropdown") ∷ mark (codes "(") ∷ name (codes "options") ∷ mark (codes "=") ∷ mark (codes "[") ∷ text (codes "\"cm\"") ∷ mark (codes ",") ∷ text (codes "\"m\"") ∷ mark (codes "]") ∷ mark (codes ",") ∷ name (codes "value") ∷ mark (codes "=") ∷ text (codes "\"cm\"") ∷ mark (codes ",") ∷ mark (codes ")") ∷ [])
+    ∷ line_of 21 4 (name (codes "mo") ∷ mark (codes ".") ∷ name (codes "vstack") ∷ mark (codes "(") ∷ mark (codes "[") ∷ name (codes "count") ∷ mark (codes ",") ∷ name (codes "unit") ∷ mark (codes "]") ∷ mark (codes ")") ∷ [])
+    ∷ line_of 22 4 (name (codes "return") ∷ name (codes "count") ∷ mark (codes ",") ∷ name (codes "unit") ∷ [])
+    ∷ line_of 25 0 (mark (codes "@") ∷ name (codes "app") ∷ mark (codes ".") ∷ name (codes "cell") ∷ mark (codes "(") ∷ name (codes "hide_code") ∷ mark (codes "=") ∷ name (codes "True") ∷ mark (codes ")") ∷ [])
+    ∷ line_of 26 0 (name (codes "def") ∷ name (codes "_") ∷ mark (codes "(") ∷ name (codes "count") ∷ mark (codes ",") ∷ name (codes "mo") ∷ mark (codes ",") ∷ name (codes "unit") ∷ mark (codes ")") ∷ mark (codes ":") ∷ [])
+    ∷ line_of 27 4 (name (codes "mo") ∷ mark (codes ".") ∷ name (codes "md") ∷ mark (codes "(") ∷ f_text (characters (codes "**") ∷ field (tokens_of (name (codes "count") ∷ mark (codes ".") ∷ name (codes "value") ∷ mark (codes "*") ∷ number (codes "2") ∷ [])) tokens.as_is None ∷ characters (codes "** ") ∷ field (tokens_of (name (codes "unit") ∷ mark (codes ".") ∷ name (codes "value") ∷ [])) tokens.as_is None ∷ []) (codes "f\"\"\"**{count.value * 2}** {unit.value}\"\"\"") ∷ mark (codes ")") ∷ [])
+    ∷ line_of 28 4 (name (codes "return") ∷ [])
+    ∷ line_of 31 0 (name (codes "if") ∷ name (codes "__name__") ∷ mark (codes "==") ∷ text (codes "\"__main__\"") ∷ mark (codes ":") ∷ [])
+    ∷ line_of 32 4 (name (codes "app") ∷ mark (codes ".") ∷ name (codes "run") ∷ mark (codes "(") ∷ mark (codes ")") ∷ []) ∷ []
 
 -- ---- files that are refused, and the line
 abbrev pub refused_rows : List (List ℕ × ℕ)

@@ -3,7 +3,7 @@ ghost use Rattle.std.specs.Prelude.{◌≡◌, ◌⊎◌, ℕ, List};
 ghost use Rattle.lexical_form.specs.Lines.{Line, Spelled, Refused};
 ghost use Rattle.lexical_form.specs.Longest.{Longest, NoToken};
 ghost use Rattle.lexical_form.specs.Tokens.{Token};
-ghost use Rattle.lexical_form.specs.Worked.{AreSpelled, AreRefused, Mean, spelled_rows, refused_rows, escapes};
+ghost use Rattle.lexical_form.specs.Worked.{AreSpelled, AreRefused, Mean, notebook_file, notebook_lines, spelled_rows, refused_rows, escapes};
 
 /// A text begins with one longest token, or with no token.
 pub fn longest_token()
@@ -20,8 +20,9 @@ pub fn one_answer()
     ensures apart { (bytes : List ℕ) (ls : List Line) (n : ℕ) → Spelled bytes ls → Refused bytes n → ⊥ }
 {}
 
-/// Small files with their lines, files that are refused with the line, and what escapes stand for.
+/// A notebook and smaller files with their lines, files that are refused with the line, and what escapes stand for.
 pub fn worked_files()
+    ensures notebook { Spelled notebook_file notebook_lines }
     ensures spelled { AreSpelled spelled_rows }
     ensures refused { AreRefused refused_rows }
     ensures escapes { Mean escapes }
