@@ -13,11 +13,11 @@ or_no : (a b : Bool) → (a || b) ≡ false → (a ≡ false) × (b ≡ false)
 or_no true b h = let none : true ≡ false = h in absurd cc
 or_no false b h = (refl, h)
 
-record Even (c : ℕ) (cs : List ℕ) : Type 0 where
-  return : (c == 13) ≡ false
-  barred : is_barred c cs ≡ false
+pub record Even (c : ℕ) (cs : List ℕ) : Type 0 where
+  pub return : (c == 13) ≡ false
+  pub barred : is_barred c cs ≡ false
 
-even : (c : ℕ) (cs : List ℕ) → is_odd c cs ≡ false → Even c cs
+pub even : (c : ℕ) (cs : List ℕ) → is_odd c cs ≡ false → Even c cs
 even c cs h =
     let a = or_no ((c == 13) || (c == 12)) ((c == 239) && ends_mark cs) h in
     let b = or_no (c == 13) (c == 12) a.0 in

@@ -13,3 +13,4 @@ pub mod LastBytes
 pub mod PlainCuts
 -- For `readable`.
 pub mod CleanLaws
+pub mod EvenFronts

@@ -3,12 +3,12 @@
 
 mod file_text;
 mod formats;
+mod front;
 mod marks;
 mod numbers;
 mod plain;
 mod spec;
 mod texts;
-mod token;
 mod words;
 
 pub use file_text::{is_clean, is_readable, readable};
@@ -16,4 +16,4 @@ pub use formats::format;
 pub use numbers::number;
 pub use plain::PlainKind;
 pub use spec::{Align, Form, Spec};
-pub use token::plain_token;
+pub use front::plain_token;

@@ -2,7 +2,7 @@
 use Rattle.lexical_form.proofs.PlainLongest.{none_stands}
 use Rattle.py_lexer.specs.Views.{plain_kind}
 use Rattle.py_lexer.proofs.PlainCuts.{cut_longest}
-use Rattle.py_lexer.proofs.token.plain_token.Goals as goal
+use Rattle.py_lexer.proofs.front.plain_token.Goals as goal
 
 pub returns-in_default : goal.returns-in_default
 returns-in_default c = record { longest = λ u after stands spelled. none_stands c.args.text.now c.in_default.ensures u.kind u.spelling after stands spelled }
