@@ -1,5 +1,5 @@
 -- Clean bytes are read as they stand.
-use Rattle.std.proofs.Common.{◌≡◌, ℕ, Bool, true, false, cond, List, [], ◌∷◌, refl, ap, ◌∙◌}
+use Rattle.std.proofs.Common.{◌≤◌, suc, length, arith, ◌≡◌, ℕ, Bool, true, false, cond, List, [], ◌∷◌, refl, ap, ◌∙◌}
 use Rattle.std.specs.Prelude.{not, ◌&&◌, ◌||◌, ◌==◌}
 use Rattle.lexical_form.specs.Readable.{ends_mark, is_barred, readable, is_readable}
 use Rattle.py_lexer.specs.Clean.{is_odd, is_clean}
@@ -32,3 +32,12 @@ clean_is (c ∷ cs) h =
       same = ap (λ b. cond b [] (cond (c == 13) (readable cs) (c ∷ readable cs))) e.barred ∙ (ap (λ b. cond b (readable cs) (c ∷ readable cs)) e.return ∙ ap (λ xs. c ∷ xs) r.same);
       whole = both (not (is_barred c cs)) (is_readable cs) (not_false (is_barred c cs) e.barred) r.whole;
     }
+
+pub readable_short : (ts : List ℕ) → length (readable ts) ≤ length ts
+readable_short [] = omega arith
+readable_short (c ∷ cs) = go (is_barred c cs) (c == 13) (readable_short cs)
+  where
+    go : (a b : Bool) → length (readable cs) ≤ length cs → length (cond a [] (cond b (readable cs) (c ∷ readable cs))) ≤ suc (length cs)
+    go true b l = omega arith
+    go false true l = omega arith
+    go false false l = omega arith

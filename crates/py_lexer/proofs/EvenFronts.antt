@@ -1,13 +1,13 @@
 -- The text of a file, from one odd byte to the next.
-use Rattle.std.proofs.Common.{◌≡◌, ℕ, zero, suc, ◌+◌, ◌≤◌, ◌<◌, Bool, true, false, cond, List, [], ◌∷◌, ◌++◌, length, take, drop, get_or, refl, sym, ap, subst, ◌∙◌, append-nil, arith}
+use Rattle.std.proofs.Common.{◌≡◌, ℕ, suc, ◌≤◌, ◌<◌, Bool, true, false, cond, List, [], ◌∷◌, ◌++◌, length, take, drop, refl, sym, ap, subst, ◌∙◌, append-nil, arith}
 use Rattle.std.specs.Prelude.{not, ◌&&◌, ◌||◌, ◌==◌, ⊤}
 use Rattle.std.specs.Str.{IsCharBoundary}
 use Rattle.std.proofs.lemmas.List.{length-drop}
 use Rattle.std.proofs.lemmas.Bool.Decides.{nat_tests}
-use Rattle.lexical_form.specs.Readable.{ends_mark, starts_end, is_barred, readable}
+use Rattle.lexical_form.specs.Readable.{ends_mark, starts_end, readable}
 use Rattle.py_lexer.specs.Clean.{is_odd, even_len, even_front, starts_return}
-use Rattle.lexical_form.proofs.Basics.{and_left, and_right, not_true}
-use Rattle.py_lexer.proofs.CleanLaws.{Even, even}
+use Rattle.lexical_form.proofs.Basics.{and_left, and_right}
+use Rattle.py_lexer.proofs.CleanLaws.{even}
 
 -- what is even is read as it stands
 pub front_read : (ts : List ℕ) → readable ts ≡ even_front ts ++ readable (drop (even_len ts) ts)
@@ -84,8 +84,7 @@ at_return ts behind h e =
     let some = return_some (drop (even_len ts) ts) h in
     let first = length-drop (even_len ts) ts in
     let second = length-drop 1 (drop (even_len ts) ts) in
-    let size = ap length e in
-    (
+    let size = ap length e in (
       front_read ts ∙ ap (λ xs. even_front ts ++ xs) (return_read (drop (even_len ts) ts) h ∙ ap readable (sym e)),
       omega (arith, some, first, second, size),
     )

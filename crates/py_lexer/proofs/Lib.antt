@@ -14,3 +14,6 @@ pub mod PlainCuts
 -- For `readable`.
 pub mod CleanLaws
 pub mod EvenFronts
+-- For `lines`.
+pub mod Scanning
+pub mod AnswerLaws
