@@ -1,0 +1,58 @@
+-- Tokens as pure data (Python language reference, section 2).
+use Rattle.std.specs.Prelude.{ℕ, Bool, List, [], ◌∷◌, Option}
+
+-- how the value of an f-text's field becomes a text: by its own rule, `!r` or `!s`
+pub data Convert : Type 0 where
+  as_is : Convert
+  repr : Convert
+  str : Convert
+
+pub data Align : Type 0 where
+  left : Align
+  right : Align
+  center : Align
+
+pub data Form : Type 0 where
+  decimal : Form
+  string : Form
+
+-- the format of a field: `A W T`, each of which may be left out; `0 W`, and whether a `d` follows; `,`, and whether a `d` follows
+pub data Spec : Type 0 where
+  aligned : Option Align → (width : Option ℕ) → Option Form → Spec
+  zeros : (width : ℕ) → Bool → Spec
+  comma : Bool → Spec
+
+-- A token with its spelling. An f-text has its pieces: characters, or a field with its tokens.
+mutual
+  pub data Token : Type 0 where
+    token : Kind → (spelling : List ℕ) → Token
+
+  pub data Kind : Type 0 where
+    name : Kind
+    number : Kind
+    text : Kind
+    f_text : Pieces → Kind
+    mark : Kind
+
+  pub data Pieces : Type 0 where
+    no_piece : Pieces
+    piece : Piece → Pieces → Pieces
+
+  pub data Piece : Type 0 where
+    characters : List ℕ → Piece
+    field : Tokens → Convert → Option Spec → Piece
+
+  pub data Tokens : Type 0 where
+    no_token : Tokens
+    then_token : Token → Tokens → Tokens
+
+abbrev pub spelling : Token → List ℕ
+spelling (token kind cs) = cs
+
+abbrev pub tokens_of : List Token → Tokens
+tokens_of [] = no_token
+tokens_of (t ∷ ts) = then_token t (tokens_of ts)
+
+abbrev pub pieces_of : List Piece → Pieces
+pieces_of [] = no_piece
+pieces_of (p ∷ ps) = piece p (pieces_of ps)

@@ -1,0 +1,10 @@
+pub mod Answers
+pub mod BracketView
+pub mod Clean
+pub mod Cutting
+pub mod Digits
+pub mod Ends
+pub mod FormatParts
+pub mod ScanView
+pub mod TokenView
+pub mod Views
