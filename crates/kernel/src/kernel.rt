@@ -1,5 +1,5 @@
 // The kernel of one visitor.
-ghost use Rattle.std.specs.Prelude.{◌≡◌, [], true, false, IfOk, OnOk, OnErr, IsErr, IsOk, length, option_copied};
+ghost use Rattle.std.specs.Prelude.{◌≡◌, ◌<◌, [], true, false, IfOk, OnOk, OnErr, IsErr, IsOk, length, option_copied};
 ghost use Rattle.kernel.specs.KernelState.{IsKept, visit_of};
 ghost use Rattle.kernel.specs.Visit.{begun, AtMostFirst, newest_in, present_in, IsDelivery, IsStep, Stands};
 ghost use Rattle.visit_meaning.specs.Runnable.{Runnable};
@@ -61,6 +61,7 @@ impl<'n> Kernel<'n> {
     pub fn deliver(&mut self, alloc: Global, bytes: &[u8]) -> Result<Delivered, Memory>
         ensures delivers { IfOk result
             (λ delivered. IsDelivery bytes.now self.old self.new delivered) }
+        ensures busy { self.old.spoiled ≡ false → 0 < length self.old.pending → IsOk result }
         ensures stands { OnOk result (Stands self.new) }
         ensures spoiled { self.old.spoiled ≡ true → IsErr result }
         ensures spoils { OnErr result (self.new.spoiled ≡ true) }
