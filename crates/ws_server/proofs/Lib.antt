@@ -1,0 +1,6 @@
+-- For `serve_one`: what the end of a session says.
+pub mod Endings
+-- For `serve_door`: visitors one after the other.
+pub mod Shares
+-- For `serve_doors`: the sum of the reports.
+pub mod Sums

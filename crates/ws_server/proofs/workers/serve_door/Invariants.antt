@@ -1,0 +1,16 @@
+-- the visitors so far were served, and each fault of the door was counted
+use Rattle.std.proofs.Common.{◌≡◌, ◌≤◌, ◌<◌, ◌+◌, false}
+use Rattle.link_io.specs.Outside.{Rose}
+use Rattle.py_tree.specs.View.{view_cells}
+use Rattle.ws_server.proofs.Shares.{IsPart}
+use Rattle.ws_server.specs.Visitors.{alone_in}
+use Rattle.ws_server.proofs.workers.serve_door.Given as goal
+
+abbrev pub invariant-loop-turn : goal.invariant-loop-turn
+invariant-loop-turn g l =
+    (g.D.Door.out l.worker.door ≡ false)
+    × IsPart (alone_in (view_cells l.notebook) l.budget) (g.D.Door.queue l.fn.worker.door) (g.D.Door.queue l.worker.door) l.worker.report l.turn
+    × (g.D.Door.faults l.fn.worker.door ≤ g.D.Door.faults l.worker.door)
+    × (l.worker.report.doors ≤ l.turn)
+    × (0 < l.worker.report.doors → Rose (g.D.Door.faults l.fn.worker.door) (g.D.Door.faults l.worker.door))
+    × (l.turn ≤ l.worker.report.visitors + l.worker.report.doors + l.worker.report.memory)

@@ -1,0 +1,9 @@
+-- The session begins with a kernel at its beginning.
+use Rattle.std.proofs.Common.{◌≡◌}
+use Rattle.ws_server.proofs.Endings.{ends_of}
+use Rattle.ws_server.proofs.workers.serve_one.Goals as goal
+
+pub returns-clause-ends : goal.returns-clause-ends
+returns-clause-ends g c all told =
+    ends_of c.args.notebook.now c.args.budget c.serve_visitor.new.kernel all (g.K.Link.told c.serve_visitor.new.link) c.serve_visitor.result
+    (rw (c.in-Ok.ensures, told) at c.serve_visitor.ensures.serves)

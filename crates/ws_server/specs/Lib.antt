@@ -1,0 +1,3 @@
+pub mod Reports
+pub mod Shares
+pub mod Visitors

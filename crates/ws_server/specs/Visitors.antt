@@ -1,0 +1,33 @@
+-- What the end of a session says of its visitor.
+use Rattle.std.specs.Prelude.{◌≡◌, ◌⊎◌, ℕ, List, [], ◌∷◌, ◌++◌, length, map, Option, Some}
+use Rattle.frame_meaning.specs.FrameText.{frame_text}
+use Rattle.link_io.specs.Doors.{Parted}
+use Rattle.link_io.specs.Links.{Item, Told}
+use Rattle.py_tree.specs.Trees.{Cell}
+use Rattle.session.specs.Talks.{bytes_of, close_text}
+use Rattle.session.specs.declared.ended.Ended.{Ended}
+use Rattle.session.specs.declared.ended.Ended.TheVariants as ended
+use Rattle.visit_meaning.specs.Answer.{Message, solo}
+use Rattle.visit_meaning.specs.Messages.{AreMessages}
+
+-- Which texts a visitor alone is sent from whom these messages are taken. What a report says is stated over any such relation.
+abbrev pub Alone : Type 1
+Alone = List Item → List (List ℕ) → Type 0
+
+-- the one of a notebook
+abbrev pub alone_in : List Cell → ℕ → Alone
+alone_in nb budget items texts =
+    (ms : List Message) × AreMessages (map bytes_of items) ms × (texts ≡ map frame_text (solo nb budget ms))
+
+-- Closed: the link was read to its end or to a close message, and the texts sent are exactly those for the messages before it. TooMany: exactly
+-- those for 1,000,000 messages. Else a prefix of those for the messages that were taken.
+abbrev pub Ends : Alone → Ended → Told → Type 0
+Ends alone ended.Closed t = (items : List Item) × alone items t.sent
+    × (((t.taken ≡ items) × (t.left ≡ [])) ⊎ (t.taken ≡ items ++ Some close_text ∷ []))
+Ends alone ended.TooMany t = (length t.taken ≡ 1000000) × alone t.taken t.sent
+Ends alone ended.LinkFault t = (texts : List (List ℕ)) → alone t.taken texts → (rest : List (List ℕ)) × (t.sent ++ rest ≡ texts)
+Ends alone ended.Memory t = (texts : List (List ℕ)) → alone t.taken texts → (rest : List (List ℕ)) × (t.sent ++ rest ≡ texts)
+
+-- a visitor who came with these messages, once the session ended
+abbrev pub IsEnded : Alone → List Item → Ended → Option Told → Type 0
+IsEnded alone all end now = (t : Told) × (now ≡ Some t) × (t.taken ++ t.left ≡ all) × Ends alone end t

@@ -1,0 +1,9 @@
+//! Workers that serve the visitors of doors side by side.
+#![tactic(auto)]
+
+mod report;
+mod worker;
+mod workers;
+
+pub use report::Report;
+pub use workers::serve_doors;
