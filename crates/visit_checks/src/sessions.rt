@@ -104,7 +104,16 @@ fn serves_visitors(rt: HostRuntime) -> Result<(), Fail> {
         let wanted = (Ended::LinkFault, texts, true, call as usize - 1, 1);
         assert_eq!(rt; outcome(&rt, alloc, &notebook, &[call], &[])?, wanted);
     }
-    for (call, taken) in [(1, 1), (2, 1), (3, 1), (4, 1), (5, 2), (6, 2), (7, 3), (8, 3)] {
+    for (call, taken) in [
+        (1, 1),
+        (2, 1),
+        (3, 1),
+        (4, 1),
+        (5, 2),
+        (6, 2),
+        (7, 3),
+        (8, 3),
+    ] {
         let wanted = (Ended::LinkFault, call as usize - 1, true, taken, 1);
         assert_eq!(rt; outcome(&rt, alloc, &notebook, &[], &[call])?, wanted);
     }
@@ -122,7 +131,10 @@ fn serves_to_the_end(rt: HostRuntime) -> Result<(), Fail> {
     let alloc = rt.alloc();
     let notebook = slider(alloc).ok_or("refused")?;
     let mut link = opener(alloc)?;
-    assert_eq!(rt; ended_over(&rt, alloc, &notebook, &mut link)?, Ended::Closed);
+    assert_eq!(rt;
+        ended_over(&rt, alloc, &notebook, &mut link)?,
+        Ended::Closed
+    );
     assert_eq!(rt; (link.sent.len(), link.taken, link.faults), (4, 1, 0));
     Ok(())
 }
