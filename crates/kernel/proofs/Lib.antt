@@ -23,4 +23,3 @@ pub mod KeptState
 -- For `every_visit`, and for those who make calls one after the other.
 pub mod SoloVisits
 pub mod CallsInTurn
-pub mod MessagesInTurn

@@ -2,7 +2,7 @@
 ghost use Rattle.std.specs.Prelude.{IfOk};
 ghost use Rattle.link_io.specs.MemDoors.{IsNewDoor};
 
-use crate::calls::{ends, gives, is_over, refuses, visitor};
+use crate::calls::{ends, fails, gives, is_over, refuses, visitor};
 use link_io::{Door, Link, MemDoor, MemLink, MemPorch, Porch, PorchFault, Sent};
 use std::alloc::{AllocError, Global};
 use std::test::Fail;
@@ -53,6 +53,21 @@ fn gives_visitors_in_order(rt: HostRuntime) -> Result<(), Fail> {
         (door.waiting().len(), door.parted().len(), door.faults),
         (0, 2, 1)
     );
+    assert!(rt; is_over(&mut door));
+    Ok(())
+}
+
+#[test]
+fn fails_at_the_end_too(rt: HostRuntime) -> Result<(), Fail> {
+    let mut mute = MemLink::new(rt.alloc(), Vec::new(rt.alloc()));
+    mute.failing_recvs.push(1)?;
+    assert!(rt; fails(&mut mute));
+    assert!(rt; ends(&mut mute));
+    let mut door = MemDoor::new(rt.alloc(), Vec::new(rt.alloc()))?;
+    door.failing.push(1)?;
+    if !refuses(&mut door) {
+        return Err("the call that is listed doesn't fail".into());
+    }
     assert!(rt; is_over(&mut door));
     Ok(())
 }

@@ -184,14 +184,19 @@ fn counts_failures_of_doors(rt: HostRuntime) -> Result<(), Fail> {
     assert!(rt; one_door(&mut porch, port).is_none());
     assert_eq!(rt; porch.faults(), 1);
 
-    let _page = call(&rt, port, b"GET / HTTP/1.1\r\nHost: x\r\n\r\n")?;
+    let mut page = call(&rt, port, b"GET / HTTP/1.1\r\nHost: x\r\n\r\n")?;
     if !refuses(&mut door) {
         return Err("who asks for a page is a visitor".into());
     }
     assert_eq!(rt; door.faults(), 1);
-    let _client = call(&rt, port, REQUEST)?;
+    assert_eq!(rt; page.read(&mut [0; 1])?, 0);
+
+    // who is parted from is sent a close frame
+    let mut client = call(&rt, port, REQUEST)?;
     let link = visitor(&mut door).ok_or("nobody comes")?;
+    assert!(rt; is_answered(&mut client));
     door.part(link);
+    assert!(rt; reads(&mut client, b"\x88\x00"));
     porch.back(Vec::from_array(rt.alloc(), [door])?);
     assert_eq!(rt; porch.faults(), 2);
     Ok(())

@@ -3,7 +3,7 @@
 /// What a link gave.
 #[derive(Debug, Drop)]
 pub enum Received {
-    /// The next message, a text in UTF-8.
+    /// The next message, a text.
     Text(Vec<u8>),
     /// The next message, which is no text.
     Other,

@@ -8,8 +8,8 @@ use crate::link::Link;
 
 /// A door, through which one visitor comes after the other.
 pub trait Door: Drop {
-    /// The link of a visitor.
-    type Visitor: Link;
+    /// The link of a visitor. It can go to another thread, as doors do.
+    type Visitor: Link + Send;
 
     /// The visitors who are still to come and those who were parted, where they are told.
     ghost queue: { Self → Option Row };

@@ -3,8 +3,10 @@
 /// A gate. A worker enters it before it serves a visitor and leaves it afterwards; a gate may make it wait there. Worker and turn are
 /// numbered from 0.
 pub trait Gate: Sync {
+    /// Before the visitor of this turn is served.
     fn enter(&self, worker: u32, turn: u32);
 
+    /// Once the visitor of this turn was served.
     fn leave(&self, worker: u32, turn: u32);
 }
 

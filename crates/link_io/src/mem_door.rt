@@ -5,11 +5,14 @@ ghost use Rattle.link_io.specs.MemLinks.{IsFresh};
 
 use crate::mem_link::MemLink;
 
-/// A door in memory. The calls of `accept` are numbered from 1, and those whose numbers are listed fail, whoever is left.
+/// A door in memory. A call of `accept` fails where its number, the first being 1, is in `failing`, whether or not somebody waits.
 #[derive(Debug, Drop)]
 pub struct MemDoor {
+    /// The numbers of the calls of `accept` that fail.
     pub failing: Vec<u64>,
+    /// How often `accept` was called.
     pub calls: u64,
+    /// How often a call failed.
     pub faults: u64,
     pub(crate) waiting: Vec<MemLink>,
     pub(crate) parted: Vec<MemLink>,

@@ -12,6 +12,7 @@ use std::mem;
 /// A porch in memory. It fails where it is asked for more doors than it still has to give, whatever the port is.
 #[derive(Debug, Drop)]
 pub struct MemPorch {
+    /// How often a call failed, or took back doors of which one had failed.
     pub faults: u64,
     ahead: Vec<MemDoor>,
     returned: Vec<MemDoor>,

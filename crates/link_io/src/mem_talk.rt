@@ -8,7 +8,7 @@ use crate::mem_link::MemLink;
 use std::alloc::Global;
 
 impl MemLink {
-    /// The link of a visitor who sends these messages. No call fails.
+    /// The link of a visitor who sends these messages. No call is listed as failing.
     pub fn new(alloc: Global, messages: Vec<Option<Vec<u8>>>) -> MemLink
         ensures fresh { IsFresh result }
         ensures messages { result.messages ≡ messages }

@@ -31,8 +31,8 @@ pub trait Porch {
         ensures later { faults self.old ≤ faults self.new }
         ensures failed { result ≡ Err PorchFault.Failed → Rose (faults self.old) (faults self.new) };
 
-    /// Takes doors back. It takes no memory and can't fail. Its count rises exactly where one of theirs isn't 0. Where the doors of the
-    /// porch are told, it holds these from then on, in place of those that it took back before.
+    /// Takes doors back. It takes no memory and can't fail. Where one of the doors has failed, that counts as one failure of the porch, and
+    /// where none has, as none. Where the doors of the porch are told, these are returned now, and those that were before are forgotten.
     fn back(&mut self, doors: Vec<Self::Way>)
         ensures taken { TakesBack (told self.old) (told self.new)
             (map (λ d. seen (Self.Way.queue d) (Self.Way.faults d)) doors.items) }

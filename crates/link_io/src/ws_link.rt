@@ -7,7 +7,7 @@ use std::alloc::Global;
 use std::net::TcpStream;
 use tungstenite::{Error, Message, NoMask, WebSocket};
 
-// How many pings and pongs in a row are passed over. More of them are a failure of the link.
+// At so many pings and pongs in a row the link fails.
 const PINGS: u32 = 65_536;
 
 /// The link of a visitor over a WebSocket (RFC 6455). A text message is a text, however many frames it comes in, and a binary one is none.

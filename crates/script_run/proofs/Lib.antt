@@ -2,4 +2,5 @@
 pub mod ScriptLines
 -- For `play`: the frames of one answer, and of messages one after the other.
 pub mod GivenFrames
+pub mod MessagesInTurn
 pub mod PlayedMessages

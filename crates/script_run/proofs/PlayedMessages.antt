@@ -7,7 +7,7 @@ use Rattle.py_tree.specs.Trees.{Cell}
 use Rattle.py_tree.specs.View.{view_cells}
 use Rattle.py_tree.specs.declared.tree.CellCode.{CellCode}
 use Rattle.script_run.proofs.GivenFrames.{costs_append}
-use Rattle.kernel.proofs.MessagesInTurn.{parts_append, parts_begin, same_messages}
+use Rattle.script_run.proofs.MessagesInTurn.{parts_append, parts_begin, same_messages}
 use Rattle.kernel.specs.Visit.{Visit, begun, IsDelivery, Takes}
 use Rattle.kernel.specs.declared.answers.Delivered.{Delivered}
 use Rattle.kernel.specs.declared.answers.Delivered.TheVariants as delivered

@@ -2,7 +2,7 @@
 use Rattle.std.proofs.Common.{◌≡◌, ◌∙◌, refl, sym, ap, subst, ℕ, List, [], ◌∷◌, ◌++◌, append_assoc, append-nil, length, map, arith}
 use Rattle.std.proofs.lemmas.List.{map-append}
 use Rattle.std.proofs.lemmas.List.Elements.{All-append, All-cons, All-nil}
-use Rattle.std.specs.Prelude.{All, Option}
+use Rattle.std.specs.Prelude.{All, Option, false}
 use Rattle.frame_meaning.specs.FrameText.{frame_text}
 use Rattle.frames.specs.declared.frame.Frame.{Frame}
 use Rattle.kernel.proofs.CallsInTurn.{given_append, leads_append, taken_append}
@@ -63,12 +63,13 @@ went_delivered bytes delivered.Taken v w count told none does =
 -- no frame is to come
 pub drains_idle : {v : Visit} {count : ℕ} {before : Option Told} {w : Visit} {count_mid : ℕ} {now : Option Told}
     → (x : Visit) (count_after : ℕ) → Went v count before [] [] w count_mid now → IsStep w x count_mid count_after stepped.Idle → Stands x
-    → Drains v count before [] x count_after now
-drains_idle {v = v} {count = count} {before = before} {w = w} {count_mid = count_mid} {now = now} x count_after so_far idle stands = record {
+    → x.spoiled ≡ false → Drains v count before [] x count_after now
+drains_idle {v = v} {count = count} {before = before} {w = w} {count_mid = count_mid} {now = now} x count_after so_far idle stands sound = record {
   went = subst (λ z. Went v count before [] [] z count_after now) (sym idle.1)
       (subst (λ n. Went v count before [] [] w n now) (sym idle.2) so_far);
   over = ap (λ (z : Visit). z.pending) idle.1 ∙ idle.0;
   stands = stands;
+  sound = sound;
 }
 
 -- ---- where it goes no further
@@ -84,6 +85,7 @@ breaks_step {w = w} {count_mid = count_mid} count_after so_far most = record {
   left = [];
   went = so_far;
   are = refl;
+  one = omega arith;
   most = most;
   exact = λ failed. absurd (cc);
 }
@@ -102,6 +104,7 @@ breaks_frame {w = w} {count_mid = count_mid} {mid = mid} why f x count_after now
       left = [];
       went = went_both so_far (went_heard w count_mid mid [] now talked);
       are = refl;
+      one = omega arith;
       most = (omega arith, omega arith);
       exact = λ failed. (refl, omega arith);
     }
@@ -118,6 +121,7 @@ breaks_behind {bs = bs} so_far b = record {
   left = b.left;
   went = went_both so_far b.went;
   are = ap (λ cs. bs ++ cs) b.are ∙ sym (append_assoc bs b.took b.left);
+  one = b.one;
   most = b.most;
   exact = b.exact;
 }
@@ -125,7 +129,7 @@ breaks_behind {bs = bs} so_far b = record {
 pub drains_behind : {v : Visit} {count : ℕ} {before : Option Told} {bs : List (List ℕ)} {w : Visit} {count_mid : ℕ} {mid : Option Told}
     {cs : List (List ℕ)} {x : Visit} {count_after : ℕ} {now : Option Told}
     → Went v count before bs [] w count_mid mid → Drains w count_mid mid cs x count_after now → Drains v count before (bs ++ cs) x count_after now
-drains_behind so_far d = record { went = went_both so_far d.went; over = d.over; stands = d.stands }
+drains_behind so_far d = record { went = went_both so_far d.went; over = d.over; stands = d.stands; sound = d.sound }
 
 -- the kernel doesn't take a message, as memory is wanting
 pub breaks_undelivered : (bytes : List ℕ) (v : Visit) (count : ℕ) (told : Option Told) → v.pending ≡ [] → Breaks unsent.Memory v count told (bytes ∷ []) [] count told
@@ -138,6 +142,7 @@ breaks_undelivered bytes v count told none =
       left = bytes ∷ [];
       went = went_none v count told;
       are = refl;
+      one = omega arith;
       most = (omega arith, omega arith);
       exact = λ failed. absurd (cc);
     }
@@ -148,12 +153,12 @@ breaks_undelivered bytes v count told none =
 abbrev pub Answered : Visit → ℕ → Option Told → List Item → Visit → ℕ → Option Told → Type 0
 Answered v count before items w count_after now =
     Went v count before (map bytes_of items) items w count_after now × (w.pending ≡ []) × Stands w
-    × All IsNoClose items
+    × All IsNoClose items × (w.spoiled ≡ false)
 
 -- the frames that were to come are sent
 pub answered_none : {v : Visit} {count : ℕ} {before : Option Told} {w : Visit} {count_after : ℕ} {now : Option Told}
     → Drains v count before [] w count_after now → Answered v count before [] w count_after now
-answered_none d = (d.went, d.over, d.stands, All-nil IsNoClose)
+answered_none d = (d.went, d.over, d.stands, All-nil IsNoClose, d.sound)
 
 bytes_more : (items : List Item) (m : Item) (bytes : List ℕ) → bytes_of m ≡ bytes → (map bytes_of items ++ []) ++ bytes ∷ [] ≡ map bytes_of (items ++ m ∷ [])
 bytes_more items m bytes is =
@@ -175,6 +180,7 @@ answered_next {v = v} {count = count} {before = before} {items = items} {w = w} 
       d.over,
       d.stands,
       unclosed_more items m so_far.3 no_close,
+      d.sound,
     )
 
 -- one more message, whose answer isn't sent to its end
@@ -204,6 +210,7 @@ breaks_here {v = v} {count = count} {before = before} {items = items} {w = w} {c
           (subst (λ js. Went v count before (map bytes_of items ++ []) js w count_mid now) (append-nil items)
           (went_both so_far.0 (went_heard w count_mid mid [] now talked)));
       are = sym (append-nil (map bytes_of items));
+      one = omega arith;
       most = (omega arith, omega arith);
       exact = λ failed. (refl, omega arith);
     }

@@ -1,8 +1,8 @@
 -- What stands when a session ends.
-use Rattle.std.proofs.Common.{◌≡◌, ◌∙◌, refl, sym, ap, subst, ℕ, ◌+◌, ◌≤◌, List, [], ◌∷◌, ◌++◌, append_assoc, append-nil, map, arith}
+use Rattle.std.proofs.Common.{◌≡◌, ◌∙◌, refl, sym, ap, subst, ℕ, ◌+◌, ◌≤◌, List, [], ◌∷◌, ◌++◌, append-nil, length, map, arith}
+use Rattle.std.proofs.lemmas.List.{length-map}
 use Rattle.std.specs.Prelude.{All, Option}
 use Rattle.frame_meaning.specs.FrameText.{frame_text}
-use Rattle.kernel.proofs.MessagesInTurn.{parts_begin, same_messages}
 use Rattle.kernel.proofs.SoloVisits.{goes_on}
 use Rattle.kernel.specs.Calls.{GoesOn, given_by, newest_after, parts_for, taken_by}
 use Rattle.kernel.specs.Visit.{Visit, first_cost}
@@ -12,7 +12,7 @@ use Rattle.visit_meaning.specs.Messages.{AreMessages}
 use Rattle.session.proofs.Calling.{Answered}
 use Rattle.session.specs.Endings.{ended_for}
 use Rattle.session.specs.Progress.{Breaks}
-use Rattle.session.specs.Serving.{Counts, IsCounted, IsCutShort, IsServed, Serves}
+use Rattle.session.specs.Serving.{Counts, IsCounted, IsCutShort, IsServed, Serves, message_count_limit}
 use Rattle.session.specs.Talks.{IsNoClose, Talked, bytes_of}
 use Rattle.session.specs.declared.unsent.Unsent.{Unsent}
 use Rattle.session.specs.declared.unsent.Unsent.TheVariants as unsent
@@ -39,6 +39,7 @@ served {v = v} {count = count} {before = before} {items = items} {w = w} {count_
       state = on.state;
       newest = on.newest ∙ ap (newest_after v.newest) frames;
       stands = a.2;
+      sound = a.4;
       nb = on.nb;
       budget = on.budget;
     }
@@ -56,88 +57,87 @@ counted {v = v} {count = count} {w = w} {count_after = count_after} a =
       steps = on.steps ∙ ap (λ ps. count + cost_of_parts ps) (all_given a on);
     }
 
-first_within : (ps more : List Part) → first_cost ps ≤ first_cost (ps ++ more)
-first_within [] more = omega arith
-first_within (p ∷ ps) more = omega arith
+-- ---- where it went no further
 
--- where it broke: the parts that were given are a prefix of those for the messages
+abbrev tail_of : List (List ℕ) → List (List ℕ)
+tail_of [] = []
+tail_of (b ∷ bs) = bs
+
+abbrev head_or : List (List ℕ) → List ℕ → List ℕ
+head_or [] d = d
+head_or (b ∷ bs) d = b
+
+-- messages whose bytes are two lists are two lists
+record Parted (items : List Item) (took left : List (List ℕ)) : Type 0 where
+  heard : List Item
+  untaken : List Item
+  all : items ≡ heard ++ untaken
+  heard_are : map bytes_of heard ≡ took
+  untaken_are : map bytes_of untaken ≡ left
+
+parted : (items : List Item) (took left : List (List ℕ)) → map bytes_of items ≡ took ++ left → Parted items took left
+parted items [] left e = record { heard = []; untaken = items; all = refl; heard_are = refl; untaken_are = e }
+parted [] (t ∷ took) left e = absurd (cc)
+parted (m ∷ items) (t ∷ took) left e =
+    let rest = parted items took left (ap tail_of e) in
+    record {
+      heard = m ∷ rest.heard;
+      untaken = rest.untaken;
+      all = ap (λ xs. m ∷ xs) rest.all;
+      heard_are = (λ i. head_or (e i) [] ∷ rest.heard_are i);
+      untaken_are = rest.untaken_are;
+    }
+
+none_left : (items : List Item) → map bytes_of items ≡ [] → items ≡ []
+none_left [] e = refl
+none_left (m ∷ items) e = absurd (cc)
+
+-- the parts that were given are a prefix of those for the messages that the kernel took
 abbrev broke : {why : Unsent} {v : Visit} {count : ℕ} {before : Option Told} {items : List Item} {count_after : ℕ} {now : Option Told}
-    → (b : Breaks why v count before (map bytes_of items) items count_after now) → All IsNoClose items → IsCutShort v before now
-broke {v = v} {count = count} {items = items} b unclosed =
+    → (b : Breaks why v count before (map bytes_of items) items count_after now) → All IsNoClose items → length items ≤ message_count_limit
+    → IsCutShort v before now
+broke {v = v} {count = count} {items = items} b unclosed few =
     let f = b.went in
     let on : GoesOn v (taken_by f.calls) (given_by f.calls) b.at count b.count_at = goes_on f.calls v b.at count b.count_at f.led in
-    let bytes : map bytes_of items ≡ taken_by f.calls ++ b.left = b.are ∙ ap (λ bs. bs ++ b.left) (sym f.took) in
+    let p : Parted items b.took b.left = parted items b.took b.left b.are in
+    let long = length-map p.untaken bytes_of in
+    let same : length (map bytes_of p.untaken) ≡ length b.left = ap (λ xs. length xs) p.untaken_are in
+    let one = b.one in
     record {
       items = items;
-      texts = map frame_text (given_by f.calls);
+      heard = p.heard;
+      untaken = p.untaken;
+      are_all = p.all;
+      one = omega arith;
+      few = few;
       unclosed = unclosed;
-      talked = f.talked;
-      begin = λ ms are.
-          let later = parts_begin v (taken_by f.calls) b.left on.messages ms on.are (subst (λ bs. AreMessages bs ms) bytes are) in
-          record {
-            sent = on.parts;
-            rest = b.at.pending ++ later.0;
-            whole = sym later.1 ∙ ap (λ ps. ps ++ later.0) (sym on.whole) ∙ append_assoc on.parts b.at.pending later.0;
-            texts = ap (map frame_text) on.frames;
-          };
-    }
-
--- where the kernel took all messages
-abbrev broke_exactly : {why : Unsent} {v : Visit} {count : ℕ} {before : Option Told} {items : List Item} {count_after : ℕ} {now : Option Told}
-    → (b : Breaks why v count before (map bytes_of items) items count_after now) → b.left ≡ [] → All IsNoClose items → IsCutShort v before now
-broke_exactly {v = v} {count = count} {items = items} b none unclosed =
-    let f = b.went in
-    let on : GoesOn v (taken_by f.calls) (given_by f.calls) b.at count b.count_at = goes_on f.calls v b.at count b.count_at f.led in
-    let bytes : taken_by f.calls ≡ map bytes_of items = f.took ∙ sym (append-nil b.took) ∙ ap (λ l. b.took ++ l) (sym none) ∙ sym b.are in
-    record {
-      items = items;
+      messages = on.messages;
+      are = subst (λ bs. AreMessages bs on.messages) (f.took ∙ sym p.heard_are) on.are;
       texts = map frame_text (given_by f.calls);
-      unclosed = unclosed;
       talked = f.talked;
-      begin = λ ms are.
-          let same : on.messages ≡ ms = same_messages (map bytes_of items) on.messages ms (subst (λ bs. AreMessages bs on.messages) bytes on.are) are in
-          record {
-            sent = on.parts;
-            rest = b.at.pending;
-            whole = ap (parts_for v) (sym same) ∙ sym on.whole;
-            texts = ap (map frame_text) on.frames;
-          };
+      begin = record { sent = on.parts; rest = b.at.pending; whole = sym on.whole; texts = ap (map frame_text) on.frames };
     }
-
--- the steps of the parts that were given
-counted_at : {why : Unsent} {v : Visit} {count : ℕ} {before : Option Told} {items : List Item} {count_after : ℕ} {now : Option Told}
-    → (b : Breaks why v count before (map bytes_of items) items count_after now)
-    → b.count_at ≡ count + cost_of_parts (goes_on b.went.calls v b.at count b.count_at b.went.led).parts
-counted_at {v = v} {count = count} b = (goes_on b.went.calls v b.at count b.count_at b.went.led).steps
 
 pub serves_cut : {v : Visit} {count : ℕ} {before : Option Told} {count_after : ℕ} {now : Option Told}
     → (why : Unsent) (items : List Item) (after : Visit) → Breaks why v count before (map bytes_of items) items count_after now
-    → All IsNoClose items → Serves (ended_for why) v before after now
-serves_cut unsent.Failed items after b unclosed = broke b unclosed
-serves_cut unsent.Memory items after b unclosed = broke b unclosed
+    → All IsNoClose items → length items ≤ message_count_limit → Serves (ended_for why) v before after now
+serves_cut unsent.Failed items after b unclosed few =
+    let none = (b.exact refl).0 in
+    let p : Parted items b.took b.left = parted items b.took b.left b.are in
+    (broke b unclosed few, none_left p.untaken (p.untaken_are ∙ none))
+serves_cut unsent.Memory items after b unclosed few = broke b unclosed few
 
 pub counts_cut : {v : Visit} {count : ℕ} {before : Option Told} {count_after : ℕ} {now : Option Told}
     → (why : Unsent) (items : List Item) → Breaks why v count before (map bytes_of items) items count_after now
-    → All IsNoClose items → Counts (ended_for why) v before count count_after now
-counts_cut {v = v} {count = count} unsent.Failed items b unclosed =
-    let exact = b.exact refl in
-    let steps = exact.1 in
-    let so_far = counted_at b in
-    let c = broke_exactly b exact.0 unclosed in (
-      c,
-      λ ms are.
-          let sent : cost_of_parts (c.begin ms are).sent ≡ cost_of_parts (goes_on b.went.calls v b.at count b.count_at b.went.led).parts = refl in
-          let rest : first_cost (c.begin ms are).rest ≡ first_cost b.at.pending = refl in
-          omega arith,
-    )
-counts_cut {v = v} {count = count} unsent.Memory items b unclosed =
+    → All IsNoClose items → length items ≤ message_count_limit → Counts (ended_for why) v before count count_after now
+counts_cut {v = v} {count = count} unsent.Failed items b unclosed few =
+    let steps = (b.exact refl).1 in
+    let on : GoesOn v (taken_by b.went.calls) (given_by b.went.calls) b.at count b.count_at = goes_on b.went.calls v b.at count b.count_at b.went.led in
+    let so_far = on.steps in
+    (broke b unclosed few, omega arith)
+counts_cut {v = v} {count = count} unsent.Memory items b unclosed few =
     let least = b.most.0 in
     let most = b.most.1 in
-    let so_far = counted_at b in
-    let c = broke b unclosed in (
-      c,
-      λ ms are.
-          let sent : cost_of_parts (c.begin ms are).sent ≡ cost_of_parts (goes_on b.went.calls v b.at count b.count_at b.went.led).parts = refl in
-          let later : first_cost b.at.pending ≤ first_cost (c.begin ms are).rest = first_within b.at.pending _ in
-          (omega arith, omega arith),
-    )
+    let on : GoesOn v (taken_by b.went.calls) (given_by b.went.calls) b.at count b.count_at = goes_on b.went.calls v b.at count b.count_at b.went.led in
+    let so_far = on.steps in
+    (broke b unclosed few, omega arith, omega arith)

@@ -1,5 +1,5 @@
 -- How far the serving of a visitor has come.
-use Rattle.std.specs.Prelude.{◌≡◌, ℕ, ◌+◌, List, [], ◌++◌, map, Option}
+use Rattle.std.specs.Prelude.{◌≡◌, ℕ, ◌+◌, ◌≤◌, List, [], ◌++◌, false, length, map, Option}
 use Rattle.frame_meaning.specs.FrameText.{frame_text}
 use Rattle.kernel.specs.Calls.{Call, Leads, given_by, taken_by}
 use Rattle.kernel.specs.Visit.{AtMostFirst, Stands, Visit, first_cost}
@@ -21,10 +21,11 @@ pub record Drains (v : Visit) (count : ℕ) (before : Option Told) (bytes : List
   pub went : Went v count before bytes [] w count_after now
   pub over : w.pending ≡ []
   pub stands : Stands w
+  pub sound : w.spoiled ≡ false
 
 -- It went so far and no further: no more steps are counted than those of the next part. Where the link failed, the kernel took all messages,
 -- and where a part was still to come, it is one whose text couldn't be sent; its steps are counted. Where memory was wanting, there may be
--- bytes which the kernel didn't take.
+-- those of one message which the kernel didn't take.
 pub record Breaks (why : Unsent) (v : Visit) (count : ℕ) (before : Option Told) (bytes : List (List ℕ)) (items : List Item) (count_after : ℕ) (now : Option Told) : Type 0 where
   pub at : Visit
   pub count_at : ℕ
@@ -32,5 +33,6 @@ pub record Breaks (why : Unsent) (v : Visit) (count : ℕ) (before : Option Told
   pub left : List (List ℕ)
   pub went : Went v count before took items at count_at now
   pub are : bytes ≡ took ++ left
+  pub one : length left ≤ 1
   pub most : AtMostFirst at.pending count_at count_after
   pub exact : why ≡ unsent.Failed → (left ≡ []) × (count_after ≡ count_at + first_cost at.pending)

@@ -1,5 +1,5 @@
 -- What a visitor is sent who is served, and the steps that are counted.
-use Rattle.std.specs.Prelude.{◌≡◌, ℕ, ◌+◌, ◌≤◌, All, List, [], ◌++◌, length, map, Option}
+use Rattle.std.specs.Prelude.{◌≡◌, ℕ, ◌+◌, ◌<◌, ◌≤◌, ◌⊎◌, All, List, [], ◌∷◌, ◌++◌, false, length, map, Option, Some}
 use Rattle.frame_meaning.specs.FrameText.{frame_text}
 use Rattle.kernel.specs.Calls.{newest_after, parts_for}
 use Rattle.kernel.specs.Visit.{Stands, Visit, first_cost}
@@ -8,13 +8,13 @@ use Rattle.py_tree.specs.View.{view_cells}
 use Rattle.py_tree.specs.declared.tree.CellCode.{CellCode}
 use Rattle.visit_meaning.specs.Answer.{Message, Part, cost_of_parts, frames_in, solo, state_after}
 use Rattle.visit_meaning.specs.Messages.{AreMessages}
-use Rattle.session.specs.Talks.{IsNoClose, IsOver, Talked, bytes_of, texts_of}
+use Rattle.session.specs.Talks.{IsNoClose, IsOver, Talked, bytes_of, close_text, texts_of}
 use Rattle.session.specs.declared.ended.Ended.{Ended}
 use Rattle.session.specs.declared.ended.Ended.TheVariants as ended
 
--- These messages were taken from the link, none of them the close message, and exactly the texts for them were sent: those of the frames that were still to come, and those of
--- a visitor alone who sends these messages from there on. No frame is to come; state and newest frames are those to which these lead, and they
--- stand as those of the whole notebook.
+-- These messages were taken from the link, none of them the close message, and exactly the texts for them were sent: those of the frames that
+-- were still to come, and those of a visitor alone who sends these messages from there on. No frame is to come; state and newest frames are
+-- those to which these lead, they stand as those of the whole notebook, and the kernel isn't spoiled.
 pub record IsServed (v : Visit) (before : Option Told) (items : List Item) (after : Visit) (now : Option Told) : Type 0 where
   pub messages : List Message
   pub are : AreMessages (map bytes_of items) messages
@@ -24,6 +24,7 @@ pub record IsServed (v : Visit) (before : Option Told) (items : List Item) (afte
   pub state : after.state ≡ state_after (view_cells v.nb) v.budget v.state messages
   pub newest : after.newest ≡ newest_after v.newest (frames_in (parts_for v messages))
   pub stands : Stands after
+  pub sound : after.spoiled ≡ false
   pub nb : after.nb ≡ v.nb
   pub budget : after.budget ≡ v.budget
 
@@ -34,23 +35,33 @@ pub record ArePrefix (parts : List Part) (these : List (List ℕ)) : Type 0 wher
   pub whole : parts ≡ sent ++ rest
   pub texts : these ≡ texts_of sent
 
--- Messages were taken, none of them the close message, and texts were sent, which are a prefix of those for these messages.
-pub record IsCutShort (v : Visit) (before now : Option Told) : Type 0 where
-  pub items : List Item
-  pub texts : List (List ℕ)
-  pub unclosed : All IsNoClose items
-  pub talked : Talked before now items texts
-  pub begin : (ms : List Message) → AreMessages (map bytes_of items) ms → ArePrefix (parts_for v ms) texts
-
 -- the most messages that are answered in one call
 abbrev pub message_count_limit : ℕ
 message_count_limit = 1000000
 
+-- Messages were taken, none of them the close message, and texts were sent, which are a prefix of those for the messages that the kernel took:
+-- for all that were taken from the link, but for one at most, where memory was wanting. That no close message is among them says also that no message is
+-- taken before all texts so far were sent: it might be the close message, and then the sending might fail.
+pub record IsCutShort (v : Visit) (before now : Option Told) : Type 0 where
+  pub items : List Item
+  pub heard : List Item
+  pub untaken : List Item
+  pub are_all : items ≡ heard ++ untaken
+  pub one : length untaken ≤ 1
+  pub few : length items ≤ message_count_limit
+  pub unclosed : All IsNoClose items
+  pub messages : List Message
+  pub are : AreMessages (map bytes_of heard) messages
+  pub texts : List (List ℕ)
+  pub talked : Talked before now items texts
+  pub begin : ArePrefix (parts_for v messages) texts
+
 -- What was taken and sent when a session ends. Where it was closed, nothing more was read than the close message, if there was one.
 abbrev pub Serves : Ended → Visit → Option Told → Visit → Option Told → Type 0
-Serves ended.Closed v before after now = (items : List Item) × (mid : Option Told) × IsServed v before items after mid × IsOver mid now
+Serves ended.Closed v before after now = (items : List Item) × (length items < message_count_limit)
+    × (mid : Option Told) × IsServed v before items after mid × IsOver mid now
 Serves ended.TooMany v before after now = (items : List Item) × (length items ≡ message_count_limit) × IsServed v before items after now
-Serves ended.LinkFault v before after now = IsCutShort v before now
+Serves ended.LinkFault v before after now = (c : IsCutShort v before now) × (c.untaken ≡ [])
 Serves ended.Memory v before after now = IsCutShort v before now
 
 -- these messages were taken, and exactly the steps of the parts for them were counted
@@ -68,15 +79,29 @@ Counts ended.Closed v before count count_after now =
     (items : List Item) × (mid : Option Told) × IsCounted v before items count count_after mid × IsOver mid now
 Counts ended.TooMany v before count count_after now = (items : List Item) × IsCounted v before items count count_after now
 Counts ended.LinkFault v before count count_after now = (c : IsCutShort v before now)
-    × ((ms : List Message) (are : AreMessages (map bytes_of c.items) ms)
-    → count_after ≡ count + cost_of_parts (c.begin ms are).sent + first_cost (c.begin ms are).rest)
+    × (count_after ≡ count + cost_of_parts c.begin.sent + first_cost c.begin.rest)
 Counts ended.Memory v before count count_after now = (c : IsCutShort v before now)
-    × ((ms : List Message) (are : AreMessages (map bytes_of c.items) ms)
-    → (count + cost_of_parts (c.begin ms are).sent ≤ count_after)
-    × (count_after ≤ count + cost_of_parts (c.begin ms are).sent + first_cost (c.begin ms are).rest))
+    × (count + cost_of_parts c.begin.sent ≤ count_after) × (count_after ≤ count + cost_of_parts c.begin.sent + first_cost c.begin.rest)
 
 -- what was sent over a link are the texts of the frames of a visitor alone who sends these messages
 pub record SentSolo (nb : List CellCode) (budget : ℕ) (items : List Item) (now : Told) : Type 0 where
   pub messages : List Message
   pub are : AreMessages (map bytes_of items) messages
   pub texts : now.sent ≡ map frame_text (solo (view_cells nb) budget messages)
+
+-- of these messages, the texts of a visitor alone who sends the first ones were sent up to some place
+pub record SentSome (nb : List CellCode) (budget : ℕ) (all heard untaken : List Item) (now : Told) : Type 0 where
+  pub messages : List Message
+  pub are : AreMessages (map bytes_of heard) messages
+  pub taken : now.taken ≡ heard ++ untaken
+  pub all_are : now.taken ++ now.left ≡ all
+  pub rest : List (List ℕ)
+  pub texts : now.sent ++ rest ≡ map frame_text (solo (view_cells nb) budget messages)
+
+-- the messages up to the end of the link, or to a close message, were answered
+pub record SentClosed (nb : List CellCode) (budget : ℕ) (all : List Item) (now : Told) : Type 0 where
+  pub read : List Item
+  pub unclosed : All IsNoClose read
+  pub answered : SentSolo nb budget read now
+  pub all_are : now.taken ++ now.left ≡ all
+  pub ends : ((read ≡ all) × (now.taken ≡ all)) ⊎ (now.taken ≡ read ++ Some close_text ∷ [])

@@ -15,6 +15,7 @@ bytes_of None = []
 abbrev pub close_text : List ℕ
 close_text = codes "{\"close\":{}}"
 
+-- this is another message
 abbrev pub IsNoClose : Item → Type 0
 IsNoClose m = m ≡ Some close_text → ⊥
 

@@ -52,9 +52,8 @@ fn answer_message<'n, K: Link, L: Ledger>(
     drain(alloc, kernel, text, link, steps)
 }
 
-/// Serves a visitor over a link. It sends the frames that are still to come; then, again and again, it takes a message, answers it, and
-/// sends the frames of the answer, each as one text. It ends as `Ended` says, after at most 1,000,000 messages. It does nothing to the
-/// kernel but `deliver` and `step`. It waits for the visitor wherever the link does.
+/// Serves a visitor over a link. It sends the frames that are still to come, and then answers one message after the other, 1,000,000 at
+/// most, each frame as one text. `Ended` says how it ends. It waits for the visitor wherever the link does.
 pub fn serve_visitor<'n, R: Wait, K: Link, L: Ledger>(
     _rt: &R,
     alloc: Global,

@@ -5,8 +5,6 @@
 #[cfg(test)]
 mod blocks;
 #[cfg(test)]
-mod files;
-#[cfg(test)]
 mod graphs;
 #[cfg(test)]
 mod sliders;

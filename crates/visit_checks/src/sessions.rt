@@ -1,12 +1,12 @@
 // Visitors who are served over links. The texts that are wanted are written by hand.
-ghost use Rattle.std.specs.Prelude.{◌≡◌, ◌<◌};
+ghost use Rattle.std.specs.Prelude.{◌≡◌, ◌<◌, None};
 ghost use Rattle.py_tree.specs.View.{view_cells};
 ghost use Rattle.visit_meaning.specs.Runnable.{Runnable};
 
 use crate::visits::slider;
 use cell_graph::Notebook;
 use kernel::Kernel;
-use link_io::{Link, MemLink};
+use link_io::{Link, MemLink, Received, Sent};
 use py_eval::Steps;
 use py_value::Memory;
 use session::{Ended, serve_visitor};
@@ -97,25 +97,80 @@ fn outcome<R: Wait>(
 fn serves_visitors(rt: HostRuntime) -> Result<(), Fail> {
     let alloc = rt.alloc();
     let notebook = slider(alloc).ok_or("refused")?;
-    assert_eq!(rt;
-        outcome(&rt, alloc, &notebook, &[], &[])?,
-        (Ended::Closed, 8, true, 4, 0)
-    );
-    assert_eq!(rt;
-        outcome(&rt, alloc, &notebook, &[1], &[])?,
-        (Ended::LinkFault, 0, true, 0, 1)
-    );
-    assert_eq!(rt;
-        outcome(&rt, alloc, &notebook, &[2], &[])?,
-        (Ended::LinkFault, 4, true, 1, 1)
-    );
-    assert_eq!(rt;
-        outcome(&rt, alloc, &notebook, &[5], &[])?,
-        (Ended::Closed, 8, true, 4, 0)
-    );
-    for call in 1..5_u64 {
-        let wanted = (Ended::LinkFault, call as usize - 1, true, 1, 1);
+    let whole = (Ended::Closed, 8, true, 4, 0);
+    assert_eq!(rt; outcome(&rt, alloc, &notebook, &[], &[])?, whole);
+    assert_eq!(rt; outcome(&rt, alloc, &notebook, &[5], &[9])?, whole);
+    for (call, texts) in [(1, 0), (2, 4), (3, 6), (4, 8)] {
+        let wanted = (Ended::LinkFault, texts, true, call as usize - 1, 1);
+        assert_eq!(rt; outcome(&rt, alloc, &notebook, &[call], &[])?, wanted);
+    }
+    for (call, taken) in [
+        (1, 1),
+        (2, 1),
+        (3, 1),
+        (4, 1),
+        (5, 2),
+        (6, 2),
+        (7, 3),
+        (8, 3),
+    ] {
+        let wanted = (Ended::LinkFault, call as usize - 1, true, taken, 1);
         assert_eq!(rt; outcome(&rt, alloc, &notebook, &[], &[call])?, wanted);
     }
+    Ok(())
+}
+
+// A visitor who opens the notebook and goes.
+fn opener(alloc: Global) -> Result<MemLink, AllocError> {
+    let open = Vec::from_slice(alloc, b"{\"open\":{}}")?;
+    Ok(MemLink::new(alloc, Vec::from_array(alloc, [Some(open)])?))
+}
+
+#[test]
+fn serves_to_the_end(rt: HostRuntime) -> Result<(), Fail> {
+    let alloc = rt.alloc();
+    let notebook = slider(alloc).ok_or("refused")?;
+    let mut link = opener(alloc)?;
+    assert_eq!(rt;
+        ended_over(&rt, alloc, &notebook, &mut link)?,
+        Ended::Closed
+    );
+    assert_eq!(rt; (link.sent.len(), link.taken, link.faults), (4, 1, 0));
+    Ok(())
+}
+
+// A visitor who sends what is no text, again and again, and to whom memory is wanting for the second text.
+#[derive(Drop)]
+struct Poor {
+    taken: u64,
+    sends: u64,
+}
+
+impl Link for Poor {
+    ghost told = { λ link. None };
+
+    ghost faults = { λ link. 0 };
+
+    fn recv(&mut self) -> Received {
+        self.taken = self.taken.saturating_add(1);
+        Received::Other
+    }
+
+    fn send(&mut self, _text: &[u8]) -> Sent {
+        self.sends = self.sends.saturating_add(1);
+        if self.sends == 2 {
+            Sent::Memory
+        } else {
+            Sent::Done
+        }
+    }
+}
+
+#[test]
+fn sends_nothing_more(rt: HostRuntime) -> Result<(), Fail> {
+    let notebook = slider(rt.alloc()).ok_or("refused")?;
+    let mut link = Poor { taken: 0, sends: 0 };
+    let ended = ended_over(&rt, rt.alloc(), &notebook, &mut link)?;
+    assert_eq!(rt; (ended, link.taken, link.sends), (Ended::Memory, 1, 2));
     Ok(())
 }

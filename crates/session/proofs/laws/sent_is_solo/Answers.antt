@@ -1,11 +1,11 @@
 -- What was sent are the texts of a visitor alone.
-use Rattle.session.proofs.SoloTexts.{closed_solo, cut_solo, many_solo}
+use Rattle.session.proofs.SoloTexts.{closed_solo, cut_solo, fault_solo, many_solo}
 use Rattle.session.proofs.laws.sent_is_solo.Goals as goal
 
 pub returns : goal.returns
 returns c = record {
   closed = closed_solo;
   many = many_solo;
-  fault = λ nb budget all after now h. cut_solo nb budget all now h;
-  memory = λ nb budget all after now h. cut_solo nb budget all now h;
+  fault = fault_solo;
+  memory = λ nb budget all after now h. (h.heard, h.untaken, h.one, cut_solo nb budget all now h);
 }

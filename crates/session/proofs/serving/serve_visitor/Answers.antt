@@ -1,5 +1,5 @@
 -- The texts for the messages so far were sent, and a prefix of those for one more.
-use Rattle.std.proofs.Common.{◌≡◌, ◌∙◌, inl, inr, sym, subst, ◌∷◌, [], ◌++◌, arith, length}
+use Rattle.std.proofs.Common.{◌≤◌, ◌≡◌, ◌∙◌, inl, inr, sym, subst, ◌∷◌, [], ◌++◌, arith, length}
 use Rattle.std.proofs.lemmas.List.{length-append}
 use Rattle.std.proofs.lemmas.List.Elements.{All-nil}
 use Rattle.session.proofs.Calling.{answered_next, breaks_here, breaks_next, unclosed_more}
@@ -27,13 +27,13 @@ pub returns-in-Err-clause-serves : goal.returns-in-Err-clause-serves
 returns-in-Err-clause-serves g c =
     let told = g.K.Link.told c.args.link.now in
     subst (λ end. Serves end c.args.kernel.now told c.drain.new.kernel (g.K.Link.told c.drain.new.link)) (sym c.ended_of.ensures)
-    (serves_cut c.in-Err.why [] c.drain.new.kernel c.in-Err.ensures.broke (All-nil IsNoClose))
+    (serves_cut c.in-Err.why [] c.drain.new.kernel c.in-Err.ensures.broke (All-nil IsNoClose) (omega arith))
 
 pub returns-in-Err-clause-steps : goal.returns-in-Err-clause-steps
 returns-in-Err-clause-steps g c =
     let told = g.K.Link.told c.args.link.now in
     subst (λ end. Counts end c.args.kernel.now told c.args.steps.now c.drain.new.steps (g.K.Link.told c.drain.new.link)) (sym c.ended_of.ensures)
-    (counts_cut c.in-Err.why [] c.in-Err.ensures.broke (All-nil IsNoClose))
+    (counts_cut c.in-Err.why [] c.in-Err.ensures.broke (All-nil IsNoClose) (omega arith))
 
 pub returns-in-Err-answer_message-clause-serves : goal.returns-in-Err-answer_message-clause-serves
 returns-in-Err-answer_message-clause-serves g c =
@@ -41,10 +41,11 @@ returns-in-Err-answer_message-clause-serves g c =
     let so_far = c.loop.invariant.1 in
     let heard = rw c.in-Message.is at c.hear.ensures.hears in
     let now = g.K.Link.told c.answer_message.new.link in
+    let few : length (so_far.0 ++ heard.0 ∷ []) ≤ 1000000 = omega (arith, so_far.1, c.loop-test.true, length-append so_far.0 (heard.0 ∷ [])) in
     let broke = breaks_next heard.0 c.as_slice.result.now (g.K.Link.told c.hear.new.link) c.answer_message.new.steps now
     so_far.2 (heard.1 ∙ sym c.as_slice.ensures.value) heard.3 c.in-Err-answer_message.ensures.broke in
     subst (λ end. Serves end c.args.kernel.now told c.answer_message.new.kernel now) (sym c.ended_of-in-Err-answer_message.ensures)
-    (serves_cut c.in-Err-answer_message.why (so_far.0 ++ heard.0 ∷ []) c.answer_message.new.kernel broke (unclosed_more so_far.0 heard.0 so_far.2.3 heard.2))
+    (serves_cut c.in-Err-answer_message.why (so_far.0 ++ heard.0 ∷ []) c.answer_message.new.kernel broke (unclosed_more so_far.0 heard.0 so_far.2.3 heard.2) few)
 
 pub returns-in-Err-answer_message-clause-steps : goal.returns-in-Err-answer_message-clause-steps
 returns-in-Err-answer_message-clause-steps g c =
@@ -52,15 +53,16 @@ returns-in-Err-answer_message-clause-steps g c =
     let so_far = c.loop.invariant.1 in
     let heard = rw c.in-Message.is at c.hear.ensures.hears in
     let now = g.K.Link.told c.answer_message.new.link in
+    let few : length (so_far.0 ++ heard.0 ∷ []) ≤ 1000000 = omega (arith, so_far.1, c.loop-test.true, length-append so_far.0 (heard.0 ∷ [])) in
     let broke = breaks_next heard.0 c.as_slice.result.now (g.K.Link.told c.hear.new.link) c.answer_message.new.steps now
     so_far.2 (heard.1 ∙ sym c.as_slice.ensures.value) heard.3 c.in-Err-answer_message.ensures.broke in
     subst (λ end. Counts end c.args.kernel.now told c.args.steps.now c.answer_message.new.steps now) (sym c.ended_of-in-Err-answer_message.ensures)
-    (counts_cut c.in-Err-answer_message.why (so_far.0 ++ heard.0 ∷ []) broke (unclosed_more so_far.0 heard.0 so_far.2.3 heard.2))
+    (counts_cut c.in-Err-answer_message.why (so_far.0 ++ heard.0 ∷ []) broke (unclosed_more so_far.0 heard.0 so_far.2.3 heard.2) few)
 
 pub returns-in-Close-clause-serves : goal.returns-in-Close-clause-serves
 returns-in-Close-clause-serves g c =
     let so_far = c.loop.invariant.1 in
-    (so_far.0, g.K.Link.told c.loop.link, served so_far.2, inr (rw c.in-Close.is at c.hear.ensures.hears))
+    (so_far.0, omega (arith, so_far.1, c.loop-test.true), g.K.Link.told c.loop.link, served so_far.2, inr (rw c.in-Close.is at c.hear.ensures.hears))
 
 pub returns-in-Close-clause-steps : goal.returns-in-Close-clause-steps
 returns-in-Close-clause-steps g c =
@@ -70,7 +72,7 @@ returns-in-Close-clause-steps g c =
 pub returns-in-End-clause-serves : goal.returns-in-End-clause-serves
 returns-in-End-clause-serves g c =
     let so_far = c.loop.invariant.1 in
-    (so_far.0, g.K.Link.told c.loop.link, served so_far.2, inl (rw c.in-End.is at c.hear.ensures.hears))
+    (so_far.0, omega (arith, so_far.1, c.loop-test.true), g.K.Link.told c.loop.link, served so_far.2, inl (rw c.in-End.is at c.hear.ensures.hears))
 
 pub returns-in-End-clause-steps : goal.returns-in-End-clause-steps
 returns-in-End-clause-steps g c =
@@ -81,25 +83,25 @@ pub returns-in-Failed-clause-serves : goal.returns-in-Failed-clause-serves
 returns-in-Failed-clause-serves g c =
     let so_far = c.loop.invariant.1 in
     let here = breaks_here unsent.Failed (g.K.Link.told c.hear.new.link) so_far.2 (rw c.in-Failed.is at c.hear.ensures.hears) in
-    serves_cut unsent.Failed so_far.0 c.loop.kernel here so_far.2.3
+    serves_cut unsent.Failed so_far.0 c.loop.kernel here so_far.2.3 (omega (arith, so_far.1, c.loop-test.true))
 
 pub returns-in-Failed-clause-steps : goal.returns-in-Failed-clause-steps
 returns-in-Failed-clause-steps g c =
     let so_far = c.loop.invariant.1 in
     let here = breaks_here unsent.Failed (g.K.Link.told c.hear.new.link) so_far.2 (rw c.in-Failed.is at c.hear.ensures.hears) in
-    counts_cut unsent.Failed so_far.0 here so_far.2.3
+    counts_cut unsent.Failed so_far.0 here so_far.2.3 (omega (arith, so_far.1, c.loop-test.true))
 
 pub returns-in-Memory-clause-serves : goal.returns-in-Memory-clause-serves
 returns-in-Memory-clause-serves g c =
     let so_far = c.loop.invariant.1 in
     let here = breaks_here unsent.Memory (g.K.Link.told c.hear.new.link) so_far.2 (rw c.in-Memory.is at c.hear.ensures.hears) in
-    serves_cut unsent.Memory so_far.0 c.loop.kernel here so_far.2.3
+    serves_cut unsent.Memory so_far.0 c.loop.kernel here so_far.2.3 (omega (arith, so_far.1, c.loop-test.true))
 
 pub returns-in-Memory-clause-steps : goal.returns-in-Memory-clause-steps
 returns-in-Memory-clause-steps g c =
     let so_far = c.loop.invariant.1 in
     let here = breaks_here unsent.Memory (g.K.Link.told c.hear.new.link) so_far.2 (rw c.in-Memory.is at c.hear.ensures.hears) in
-    counts_cut unsent.Memory so_far.0 here so_far.2.3
+    counts_cut unsent.Memory so_far.0 here so_far.2.3 (omega (arith, so_far.1, c.loop-test.true))
 
 pub returns-clause-serves : goal.returns-clause-serves
 returns-clause-serves g c =
