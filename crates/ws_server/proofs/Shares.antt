@@ -3,13 +3,13 @@ use Rattle.std.proofs.Common.{◌≡◌, ◌∙◌, refl, sym, ap, subst, ℕ, �
 use Rattle.std.proofs.lemmas.List.{length-map, map-append}
 use Rattle.std.proofs.lemmas.List.Sums.{sum_by-append, sum_by-cons}
 use Rattle.std.specs.Prelude.{IfSome, Option, Some, None, sum_by}
-use Rattle.link_io.specs.Doors.{IsEmpty, Lets, Parted, Parts, Rests, Row}
+use Rattle.link_io.specs.Doors.{IsEmpty, Lets, Parts, Rests, Row}
 use Rattle.link_io.specs.Links.{Item, Told, fresh}
 use Rattle.link_io.specs.Outside.{Rose}
 use Rattle.session.specs.declared.ended.Ended.{Ended}
 use Rattle.session.specs.declared.ended.Ended.TheVariants as ended
 use Rattle.ws_server.specs.Reports.{Counts, IsBounded, IsNew, IsSmall, OneMore, closed_in, links_in, many_in, memory_in}
-use Rattle.ws_server.specs.Shares.{AllFit, Fits, IsServedRow, Served, Visitor, all_of, asked}
+use Rattle.ws_server.specs.Shares.{AllFit, Fits, IsServedRow, Visitor, all_of, asked}
 use Rattle.ws_server.specs.Visitors.{Alone, IsEnded}
 use Rattle.ws_server.specs.declared.report.Report.{Report}
 
@@ -117,15 +117,17 @@ row_more alone (Some b) now come after vs e told-at told faults s lets ends fail
     let rest : List (List Item) = l.1 in
     let end = ends all l.3 in
     let p = subst (λ z. Parts z after told faults) l.4 parts in
-    let asks : asked v ≡ all = ap all_of end.1 ∙ end.2 in
-    (record { waiting = rest; parted = row.parted ++ v.parted ∷ [] }, p,
-     record {
-       parted = ap (λ ps. ps ++ v.parted ∷ []) s.2.parted ∙ append_assoc b.parted (map (λ (v : Visitor). v.parted) vs) (v.parted ∷ [])
-           ∙ ap (λ ps. b.parted ++ ps) (sym (map-append (λ (v : Visitor). v.parted) vs (v ∷ [])));
-       first = ap (λ ms. ms ++ rest) (map-append asked vs (v ∷ [])) ∙ append_assoc (map asked vs) (asked v ∷ []) rest
-           ∙ ap (λ a. map asked vs ++ a ∷ rest) asks ∙ ap (λ w. map asked vs ++ w) (sym l.2) ∙ s.2.first;
-       fit = fit_more alone vs v s.2.fit (record { told = end.0; is = end.1; ends = end.3; failed = failed });
-     })
+    let asks : asked v ≡ all = ap all_of end.1 ∙ end.2 in (
+      record { waiting = rest; parted = row.parted ++ v.parted ∷ [] },
+      p,
+      record {
+        parted = ap (λ ps. ps ++ v.parted ∷ []) s.2.parted ∙ append_assoc b.parted (map (λ (v : Visitor). v.parted) vs) (v.parted ∷ [])
+            ∙ ap (λ ps. b.parted ++ ps) (sym (map-append (λ (v : Visitor). v.parted) vs (v ∷ [])));
+        first = ap (λ ms. ms ++ rest) (map-append asked vs (v ∷ [])) ∙ append_assoc (map asked vs) (asked v ∷ []) rest
+            ∙ ap (λ a. map asked vs ++ a ∷ rest) asks ∙ ap (λ w. map asked vs ++ w) (sym l.2) ∙ s.2.first;
+        fit = fit_more alone vs v s.2.fit (record { told = end.0; is = end.1; ends = end.3; failed = failed });
+      },
+    )
 
 pub part_more : {alone : Alone} {before now : Option Row} {r : Report} {turn : ℕ} (come after : Option Row) (s : Report) (e : Ended)
     (told-at told : Option Told) (faults : ℕ) → IsPart alone before now r turn → Lets now come told-at

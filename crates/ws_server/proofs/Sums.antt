@@ -1,5 +1,5 @@
 -- Doors that are moved into workers and back, and the sum of the workers' reports.
-use Rattle.std.proofs.Common.{◌≡◌, ◌∙◌, refl, sym, ap, subst, ℕ, ◌+◌, ◌*◌, ◌^◌, ◌<◌, ◌≤◌, List, [], ◌∷◌, ◌++◌, append_assoc, append-nil, get_or, length, length-append, map, suc, take, arith}
+use Rattle.std.proofs.Common.{◌≡◌, ◌∙◌, refl, sym, ap, subst, ℕ, ◌+◌, ◌*◌, ◌<◌, ◌≤◌, List, [], ◌∷◌, ◌++◌, append_assoc, append-nil, get_or, length, length-append, map, suc, take, arith}
 use Rattle.std.proofs.Math.Seq.{get_or-append_seam}
 use Rattle.std.proofs.lemmas.List.{length-map, map-append}
 use Rattle.std.proofs.lemmas.List.Sums.{sum_by-append, sum_by-cons}
@@ -129,7 +129,7 @@ none_left alone quota Q (b ∷ bs) p = absurd p
 -- all are done
 pub going_done : {D : Type 0} {alone : Alone} {quota : ℕ} {Q : D → Seen} {olds doors : List D} {all : List (Worker D)} {r : Report}
     → IsGoing alone quota Q olds doors all r → all ≡ [] → AreServed alone quota (map Q olds) (map Q doors) r
-going_done {alone = alone} {quota = quota} {Q = Q} go is = 
+going_done {alone = alone} {quota = quota} {Q = Q} go is =
     let none : go.left ≡ [] = none_left alone quota Q go.left (subst (λ ws. Pend alone quota Q go.left ws) is go.pend) in
     record {
       gone = go.gone;
@@ -138,6 +138,7 @@ going_done {alone = alone} {quota = quota} {Q = Q} go is =
       after_are = go.after_are;
       sum = go.sum;
     }
+
 within_up : (k n : ℕ) (r : Report) → k ≤ n → IsWithin k r → IsWithin n r
 within_up k n r up w =
     let step : k * 4294967296 ≤ n * 4294967296 = omega (arith, up) in

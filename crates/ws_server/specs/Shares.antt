@@ -1,12 +1,12 @@
 -- What a report tells of the visitors of doors.
-use Rattle.std.specs.Prelude.{◌≡◌, ℕ, ◌+◌, ◌<◌, ◌≤◌, min, List, [], ◌∷◌, ◌++◌, length, map, Option, Some, None, IfSome, sum_by}
+use Rattle.std.specs.Prelude.{◌≡◌, ℕ, ◌<◌, ◌≤◌, min, List, [], ◌∷◌, ◌++◌, length, map, Option, Some, None, IfSome}
 use Rattle.link_io.specs.Doors.{Parted, Row}
 use Rattle.link_io.specs.Links.{Item, Told}
 use Rattle.link_io.specs.Outside.{Rose}
 use Rattle.link_io.specs.Porches.{Seen}
 use Rattle.session.specs.declared.ended.Ended.{Ended}
 use Rattle.session.specs.declared.ended.Ended.TheVariants as ended
-use Rattle.ws_server.specs.Reports.{Counts, IsBounded, IsSum, IsUnserved}
+use Rattle.ws_server.specs.Reports.{Counts, IsSum, IsUnserved}
 use Rattle.ws_server.specs.Visitors.{Alone, Ends}
 use Rattle.ws_server.specs.declared.report.Report.{Report}
 

@@ -18,11 +18,10 @@ use py_eval::Steps;
 use session::{Ended, serve_visitor};
 use std::alloc::Global;
 use std::marker::Brand;
-use std::mem;
 use std::sync::Wait;
 use std::sync::ledger::{Blank, Ledger};
-use std::thread;
 use std::thread::Threads;
+use std::{mem, thread};
 
 // Serves one visitor on a kernel of its own.
 fn serve_one<R: Wait, K: Link, L: Ledger>(
@@ -101,7 +100,16 @@ fn serve_alone<R: Wait, D: Door, G: Gate>(
         (seen (D.queue worker.new.door) (D.faults worker.new.door)) worker.new.report }
     ensures bounded { IsBounded worker.new.report }
 {
-    serve_door::<R, D, G, Brand>(rt, alloc, notebook, budget, worker, gate, quota, Blank::new(1));
+    serve_door::<R, D, G, Brand>(
+        rt,
+        alloc,
+        notebook,
+        budget,
+        worker,
+        gate,
+        quota,
+        Blank::new(1),
+    );
 }
 
 // Lets all workers serve, each in a thread of its own; where a thread can't be made, workers serve one after the other.
@@ -129,16 +137,21 @@ fn serve_all<R: Threads + Wait + Sync, D: Door + Send, G: Gate>(
     if count == 0 {
         return;
     }
-    thread::for_each_mut(rt, workers, count, &|_: usize, worker: &mut Worker<D>|
-        requires { (D.out worker.now.door ≡ false) × IsNew worker.now.report × Runnable (view_cells notebook.now) }
-        ensures { (D.out worker.exit.now.door ≡ false)
-            × IsShare (alone_in (view_cells notebook.entry.now) budget) quota
-            (seen (D.queue worker.entry.now.door) (D.faults worker.entry.now.door))
-            (seen (D.queue worker.exit.now.door) (D.faults worker.exit.now.door)) worker.exit.now.report
-            × IsBounded worker.exit.now.report }
-    {
-        serve_alone(rt, alloc, notebook, budget, worker, gate, quota);
-    });
+    thread::for_each_mut(
+        rt,
+        workers,
+        count,
+        &|_: usize, worker: &mut Worker<D>|
+            requires { (D.out worker.now.door ≡ false) × IsNew worker.now.report × Runnable (view_cells notebook.now) }
+            ensures { (D.out worker.exit.now.door ≡ false)
+                × IsShare (alone_in (view_cells notebook.entry.now) budget) quota
+                (seen (D.queue worker.entry.now.door) (D.faults worker.entry.now.door))
+                (seen (D.queue worker.exit.now.door) (D.faults worker.exit.now.door)) worker.exit.now.report
+                × IsBounded worker.exit.now.report }
+        {
+            serve_alone(rt, alloc, notebook, budget, worker, gate, quota);
+        },
+    );
 }
 
 /// Serves the visitors of doors, worker `i` those of door `i`, each in a thread of its own. A worker accepts at most `quota` times and serves
@@ -180,7 +193,15 @@ pub fn serve_doors<R: Threads + Wait + Sync, D: Door + Send, G: Gate>(
             report: Report::new(),
         });
     }
-    serve_all(rt, alloc, notebook, budget, workers.as_mut_slice(), gate, quota);
+    serve_all(
+        rt,
+        alloc,
+        notebook,
+        budget,
+        workers.as_mut_slice(),
+        gate,
+        quota,
+    );
     for worker in workers {
         report.add(&worker.report);
         doors.push_reserved(worker.door);

@@ -1,5 +1,5 @@
 -- One turn more.
-use Rattle.std.proofs.Common.{◌≡◌, ◌∙◌, refl, sym, ap, subst, rules, ℕ, ◌+◌, ◌<◌, ◌≤◌, ◌^◌, min, arith, false}
+use Rattle.std.proofs.Common.{◌≡◌, refl, sym, subst, ◌+◌, ◌<◌, ◌≤◌, arith, false}
 use Rattle.link_io.proofs.Taken.{rose_since}
 use Rattle.link_io.specs.Outside.{Rose}
 use Rattle.py_tree.specs.View.{view_cells}
@@ -27,42 +27,45 @@ loop-turn-preserved g c =
     let at = c.loop-turn.invariant in
     let part = at.1 in
     elim c.match-accept.branch [
-      in-Visitor w ↦
-        let came = c.accept.ensures.visitor w.in-Visitor.link w.in-Visitor.is in
-        let o = w.count.ensures in
-        let later = c.accept.ensures.later in
-        let same = w.part.ensures.same in
-        subst (λ u. (g.D.Door.out u.door ≡ false) × IsPart alone q (g.D.Door.queue u.door) u.report (c.loop-turn.turn + 1) × (n ≤ g.D.Door.faults u.door) × (u.report.doors ≤ c.loop-turn.turn + 1) × (0 < u.report.doors → Rose n (g.D.Door.faults u.door)) × (c.loop-turn.turn + 1 ≤ u.report.visitors + u.report.doors + u.report.memory)) (sym w.worker-is)
-        (w.part.ensures.out,
-         part_more _ _ _ _ _ _ _ part came.2 w.serve_one-ended.ensures.ends (λ is. rose_some _ _ came.1 (w.serve_one-ended.ensures.failed is)) w.part.ensures.parted o,
-         omega (arith, at.2, later, same),
-         omega (arith, o.doors, at.3),
-         λ some. rose_later n (g.D.Door.faults c.loop-turn.worker.door) _ (at.4 (omega (arith, o.doors, some))) (omega (arith, later, same)),
-         omega (arith, at.5, o.visitors, o.doors, o.memory))
-    | in-Failed w ↦
-        let failed = c.accept.ensures.failed w.in-Failed.is in
-        let later = c.accept.ensures.later in
-        subst (λ u. (g.D.Door.out u.door ≡ false) × IsPart alone q (g.D.Door.queue u.door) u.report (c.loop-turn.turn + 1) × (n ≤ g.D.Door.faults u.door) × (u.report.doors ≤ c.loop-turn.turn + 1) × (0 < u.report.doors → Rose n (g.D.Door.faults u.door)) × (c.loop-turn.turn + 1 ≤ u.report.visitors + u.report.doors + u.report.memory)) (sym w.worker-is)
-        (failed.0,
-         part_rests _ _ part failed.2 (record { visitors = refl; closed = refl; links = refl; many = refl; memory = omega arith; more = omega arith }),
-         omega (arith, at.2, later),
-         omega (arith, at.3, w.saturating_add-worker.ensures),
-         λ some. rose_since n (g.D.Door.faults c.loop-turn.worker.door) _ at.2 failed.1,
-         omega (arith, at.5, at.3, w.saturating_add-worker.ensures, c.loop-turn-test.true, c.ranges.quota.fits))
-    | in-Memory w ↦
-        let wanting = c.accept.ensures.memory w.in-Memory.is in
-        let later = c.accept.ensures.later in
-        let sum = w.saturating_add-worker-in-Memory.ensures in
-        let bound = part.memory in
-        let few = c.loop-turn-test.true in
-        let fits = c.ranges.quota.fits in
-        subst (λ u. (g.D.Door.out u.door ≡ false) × IsPart alone q (g.D.Door.queue u.door) u.report (c.loop-turn.turn + 1) × (n ≤ g.D.Door.faults u.door) × (u.report.doors ≤ c.loop-turn.turn + 1) × (0 < u.report.doors → Rose n (g.D.Door.faults u.door)) × (c.loop-turn.turn + 1 ≤ u.report.visitors + u.report.doors + u.report.memory)) (sym w.worker-is)
-        (wanting.0,
-         part_rests _ _ part wanting.1 (record { visitors = refl; closed = refl; links = refl; many = refl; memory = omega arith; more = omega arith }),
-         omega (arith, at.2, later),
-         omega (arith, at.3),
-         λ some. rose_later n (g.D.Door.faults c.loop-turn.worker.door) _ (at.4 some) later,
-         omega (arith, at.5, sum, bound, few, fits))
+      | in-Visitor w ↦
+          let came = c.accept.ensures.visitor w.in-Visitor.link w.in-Visitor.is in
+          let o = w.count.ensures in
+          let later = c.accept.ensures.later in
+          let same = w.part.ensures.same in
+          subst (λ u. (g.D.Door.out u.door ≡ false) × IsPart alone q (g.D.Door.queue u.door) u.report (c.loop-turn.turn + 1) × (n ≤ g.D.Door.faults u.door) × (u.report.doors ≤ c.loop-turn.turn + 1) × (0 < u.report.doors → Rose n (g.D.Door.faults u.door)) × (c.loop-turn.turn + 1 ≤ u.report.visitors + u.report.doors + u.report.memory)) (sym w.worker-is) (
+            w.part.ensures.out,
+            part_more _ _ _ _ _ _ _ part came.2 w.serve_one-ended.ensures.ends (λ is. rose_some _ _ came.1 (w.serve_one-ended.ensures.failed is)) w.part.ensures.parted o,
+            omega (arith, at.2, later, same),
+            omega (arith, o.doors, at.3),
+            λ some. rose_later n (g.D.Door.faults c.loop-turn.worker.door) _ (at.4 (omega (arith, o.doors, some))) (omega (arith, later, same)),
+            omega (arith, at.5, o.visitors, o.doors, o.memory),
+          )
+      | in-Failed w ↦
+          let failed = c.accept.ensures.failed w.in-Failed.is in
+          let later = c.accept.ensures.later in
+          subst (λ u. (g.D.Door.out u.door ≡ false) × IsPart alone q (g.D.Door.queue u.door) u.report (c.loop-turn.turn + 1) × (n ≤ g.D.Door.faults u.door) × (u.report.doors ≤ c.loop-turn.turn + 1) × (0 < u.report.doors → Rose n (g.D.Door.faults u.door)) × (c.loop-turn.turn + 1 ≤ u.report.visitors + u.report.doors + u.report.memory)) (sym w.worker-is) (
+            failed.0,
+            part_rests _ _ part failed.2 (record { visitors = refl; closed = refl; links = refl; many = refl; memory = omega arith; more = omega arith }),
+            omega (arith, at.2, later),
+            omega (arith, at.3, w.saturating_add-worker.ensures),
+            λ some. rose_since n (g.D.Door.faults c.loop-turn.worker.door) _ at.2 failed.1,
+            omega (arith, at.5, at.3, w.saturating_add-worker.ensures, c.loop-turn-test.true, c.ranges.quota.fits),
+          )
+      | in-Memory w ↦
+          let wanting = c.accept.ensures.memory w.in-Memory.is in
+          let later = c.accept.ensures.later in
+          let sum = w.saturating_add-worker-in-Memory.ensures in
+          let bound = part.memory in
+          let few = c.loop-turn-test.true in
+          let fits = c.ranges.quota.fits in
+          subst (λ u. (g.D.Door.out u.door ≡ false) × IsPart alone q (g.D.Door.queue u.door) u.report (c.loop-turn.turn + 1) × (n ≤ g.D.Door.faults u.door) × (u.report.doors ≤ c.loop-turn.turn + 1) × (0 < u.report.doors → Rose n (g.D.Door.faults u.door)) × (c.loop-turn.turn + 1 ≤ u.report.visitors + u.report.doors + u.report.memory)) (sym w.worker-is) (
+            wanting.0,
+            part_rests _ _ part wanting.1 (record { visitors = refl; closed = refl; links = refl; many = refl; memory = omega arith; more = omega arith }),
+            omega (arith, at.2, later),
+            omega (arith, at.3),
+            λ some. rose_later n (g.D.Door.faults c.loop-turn.worker.door) _ (at.4 some) later,
+            omega (arith, at.5, sum, bound, few, fits),
+          )
     ]
 
 pub returns-in-NoMore-clause-bounded : goal.returns-in-NoMore-clause-bounded

@@ -1,5 +1,6 @@
 -- The session begins with a kernel at its beginning.
-use Rattle.std.proofs.Common.{◌≡◌}
+use Rattle.std.proofs.Common.{[], refl, arith}
+use Rattle.link_io.specs.Links.{fresh}
 use Rattle.ws_server.proofs.Endings.{ends_of}
 use Rattle.ws_server.proofs.workers.serve_one.Goals as goal
 
@@ -7,3 +8,6 @@ pub returns-clause-ends : goal.returns-clause-ends
 returns-clause-ends g c all told =
     ends_of c.args.notebook.now c.args.budget c.serve_visitor.new.kernel all (g.K.Link.told c.serve_visitor.new.link) c.serve_visitor.result
     (rw (c.in-Ok.ensures, told) at c.serve_visitor.ensures.serves)
+
+pub returns-in_default-clause-ends : goal.returns-in_default-clause-ends
+returns-in_default-clause-ends g c all told = (fresh all, told, refl, ([], [], refl, omega arith, [], ([], tt, refl), [], refl))
