@@ -120,22 +120,28 @@ fn serves_visitors(rt: HostRuntime) -> Result<(), Fail> {
     Ok(())
 }
 
-// A visitor who opens the notebook and goes.
-fn opener(alloc: Global) -> Result<MemLink, AllocError> {
-    let open = Vec::from_slice(alloc, b"{\"open\":{}}")?;
-    Ok(MemLink::new(alloc, Vec::from_array(alloc, [Some(open)])?))
+// A visitor who opens the notebook and sends a close message, or goes without one.
+fn opener(alloc: Global, closes: bool) -> Result<MemLink, AllocError> {
+    let mut messages = Vec::new(alloc);
+    messages.push(Some(Vec::from_slice(alloc, b"{\"open\":{}}")?))?;
+    if closes {
+        messages.push(Some(Vec::from_slice(alloc, b"{\"close\":{}}")?))?;
+    }
+    Ok(MemLink::new(alloc, messages))
 }
 
 #[test]
 fn serves_to_the_end(rt: HostRuntime) -> Result<(), Fail> {
     let alloc = rt.alloc();
     let notebook = slider(alloc).ok_or("refused")?;
-    let mut link = opener(alloc)?;
-    assert_eq!(rt;
-        ended_over(&rt, alloc, &notebook, &mut link)?,
-        Ended::Closed
-    );
-    assert_eq!(rt; (link.sent.len(), link.taken, link.faults), (4, 1, 0));
+    for (closes, taken) in [(false, 1), (true, 2)] {
+        let mut link = opener(alloc, closes)?;
+        let ended = ended_over(&rt, alloc, &notebook, &mut link)?;
+        assert_eq!(rt;
+            (ended, link.sent.len(), link.taken, link.faults),
+            (Ended::Closed, 4, taken, 0)
+        );
+    }
     Ok(())
 }
 
