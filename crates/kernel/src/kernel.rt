@@ -17,8 +17,8 @@ use std::sync::ledger::Ledger;
 use ui_elements::Present;
 
 /// The session of one visitor of a notebook: it takes the visitor's messages and gives the frames of the answers, one a step. Only the
-/// steps of what depends on a change are counted. Contracts see it as a `Visit`. After `Memory` it is spoiled: `deliver` and `step` answer
-/// `Memory` from then on.
+/// steps of what depends on a change are counted. Contracts see it as a `Visit`. Once memory was wanting it is spoiled, and both calls say so
+/// ever after.
 #[derive(Drop)]
 pub struct Kernel<'n> {
     state: KernelState<'n>,

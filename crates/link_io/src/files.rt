@@ -14,8 +14,8 @@ pub trait Files {
     /// How often a call failed. It stands still at 2^64 - 1.
     ghost faults: { Self → ℕ };
 
-    /// Fills the beginning of `buf` with the file's bytes from `from` on, and answers how many. Where the bytes are told and
-    /// `buf` isn't empty, it answers 0 exactly at the end. A name that stands for no file is a fault.
+    /// Puts the bytes of the file that stand at `from` and behind it into `buf`, from its front on; the answer is their number.
+    /// Where bytes are told and `buf` has room, that is 0 exactly at the file's end. It is a fault to ask for a name without a file.
     fn read_at(&mut self, name: &str, from: u64, buf: &mut [u8]) -> Result<usize, Failed>
         ensures within { IfOk result (λ n. n ≤ length buf.old) }
         ensures read { IfSome (holds self.old name.now) (λ told. IfOk result (λ n.

@@ -12,8 +12,8 @@ pub trait Sink {
     /// How often a call failed. It stands still at 2^64 - 1.
     ghost faults: { Self → ℕ };
 
-    /// Takes a beginning of the piece, and answers how many bytes. A sink that takes nothing of a piece that isn't empty has
-    /// counted a fault and answers `Failed`. At `Failed` it took nothing.
+    /// Takes bytes from the front of the piece, and answers how many. Where the piece has bytes and none is taken, the sink has
+    /// counted a fault and answers `Failed`; at that answer nothing was taken.
     fn write(&mut self, piece: &[u8]) -> Result<usize, Failed>
         ensures within { IfOk result (λ n. n ≤ length piece.now) }
         ensures some { IfOk result (λ n. 0 < length piece.now → 0 < n) }

@@ -105,7 +105,7 @@ fn drain<'n, O: Sink, L: Ledger>(
     Ok(())
 }
 
-/// Plays the messages of one visitor from the beginning of a visit. Each frame is written when its step gives it, on a line of its own
+/// Plays the messages of one visitor from the beginning of a visit. A frame goes out as soon as a step has given it, on a line of its own
 /// behind `label`; all frames of an answer are written before the next message is taken. Each run of a cell has this budget of steps; the
 /// steps of all runs are counted.
 pub fn play<O: Sink, L: Ledger>(

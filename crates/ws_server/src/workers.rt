@@ -154,9 +154,9 @@ fn serve_all<R: Threads + Wait + Sync, D: Door + Send, G: Gate>(
     );
 }
 
-/// Serves the visitors of doors, worker `i` those of door `i`, each in a thread of its own. A worker accepts at most `quota` times and serves
-/// each visitor on a new kernel over the notebook, whose runs of cells have this budget of steps; before and behind each visitor it passes
-/// the gate. Where memory is wanting before the workers begin, no visitor is accepted.
+/// Serves the visitors of doors: each door has a worker, in a thread of its own where one can be made. A worker takes in up to `quota` visitors,
+/// one after the other, each on a new kernel over the notebook, whose runs of cells have this budget of steps; it passes the gate before and
+/// behind each. If there is no memory for the workers, nobody is let in, and the report has `memory` 1 and nothing else.
 pub fn serve_doors<R: Threads + Wait + Sync, D: Door + Send, G: Gate>(
     rt: &R,
     alloc: Global,
