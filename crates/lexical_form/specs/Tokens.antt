@@ -16,13 +16,13 @@ pub data Form : Type 0 where
   decimal : Form
   string : Form
 
--- the format of a field: `A W T`, each of which may be left out; `0 W`, and whether a `d` follows; `,`, and whether a `d` follows
+-- the format of a field: alignment, width and type, each of which may be missing; `0`, a width, and whether a `d` follows; `,`, and the same
 pub data Spec : Type 0 where
   aligned : Option Align → (width : Option ℕ) → Option Form → Spec
   zeros : (width : ℕ) → Bool → Spec
   comma : Bool → Spec
 
--- A token with its spelling. An f-text has its pieces: characters, or a field with its tokens.
+-- A token with its spelling. Of an f-text there is also what it is made of: texts that stand for themselves, and fields.
 mutual
   pub data Token : Type 0 where
     token : Kind → (spelling : List ℕ) → Token

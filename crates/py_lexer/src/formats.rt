@@ -12,8 +12,8 @@ ghost use Rattle.lexical_form.specs.Reading.{span};
 use crate::spec::{Align, Form, Spec};
 use crate::words::is_digit;
 
-/// What the format at the front says, and what is behind it; none where no format stands there. A format goes on as far as it can. Where
-/// it ends directly before a `}`, as in a field, no other one does.
+/// What a format at the front says, and what is behind it; none only where no format ends directly before a `}`. Where the one that is read
+/// ends there, as in a field, no other one does.
 pub fn format(bytes: &[u8]) -> Option<(Spec, &[u8])>
     ensures found { IfSome result (λ p. (f : Format) × IsTrue (formats.is_format f)
         × (bytes.now ≡ formats.format_spelling f ++ p.1.now) × (view_spec p.0 ≡ formats.spec_of f)) }

@@ -9,7 +9,7 @@ ghost use Rattle.py_lexer.specs.Cutting.{PlainCut};
 use crate::plain::{PlainKind, plain};
 
 /// What the longest token at the front is that holds no other tokens, its spelling, and what is behind it; none where no such token begins
-/// there (Python language reference, section 2.2). In a file of which each byte is at the front once this takes time linear in the bytes.
+/// there (Python language reference, section 2.2).
 pub fn plain_token(text: &str) -> Option<(PlainKind, &str, &str)>
     ensures longest { MatchOption result (NoPlain text.now)
         (λ p. LongestPlain text.now (record { kind = plain_kind p.0; spelling = p.1.now }) p.2.now) }
