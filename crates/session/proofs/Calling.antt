@@ -13,7 +13,7 @@ use Rattle.kernel.specs.declared.answers.Delivered.TheVariants as delivered
 use Rattle.kernel.specs.declared.answers.Stepped.TheVariants as stepped
 use Rattle.link_io.specs.Links.{Item, Told}
 use Rattle.session.proofs.Talking.{talked_both, talked_none}
-use Rattle.session.specs.Progress.{Breaks, Drains, Went}
+use Rattle.session.specs.Progress.{Breaks, Drains, Stops, Went}
 use Rattle.session.specs.Talks.{IsNoClose, Talked, bytes_of}
 use Rattle.session.specs.declared.unsent.Unsent.{Unsent}
 use Rattle.session.specs.declared.unsent.Unsent.TheVariants as unsent
@@ -79,15 +79,18 @@ pub breaks_step : {v : Visit} {count : ℕ} {before : Option Told} {w : Visit} {
     → (count_after : ℕ) → Went v count before [] [] w count_mid now → AtMostFirst w.pending count_mid count_after
     → Breaks unsent.Memory v count before [] [] count_after now
 breaks_step {w = w} {count_mid = count_mid} count_after so_far most = record {
-  at = w;
-  count_at = count_mid;
-  took = [];
-  left = [];
-  went = so_far;
-  are = refl;
-  one = omega arith;
-  most = most;
-  exact = λ failed. absurd (cc);
+  stops = record {
+    at = w;
+    count_at = count_mid;
+    took = [];
+    left = [];
+    went = so_far;
+    are = refl;
+    one = omega arith;
+    most = most;
+    exact = λ failed. absurd (cc);
+  };
+  stuck = λ failed. absurd (cc);
 }
 
 -- a frame is given, whose text isn't sent
@@ -97,24 +100,28 @@ pub breaks_frame : {v : Visit} {count : ℕ} {before : Option Told} {w : Visit} 
 breaks_frame {w = w} {count_mid = count_mid} {mid = mid} why f x count_after now so_far gives talked =
     let first : first_cost w.pending ≡ gives.cost = ap first_cost gives.pending in
     let steps = gives.steps in
+    let some = gives.pending in
     record {
-      at = w;
-      count_at = count_mid;
-      took = [];
-      left = [];
-      went = went_both so_far (went_heard w count_mid mid [] now talked);
-      are = refl;
-      one = omega arith;
-      most = (omega arith, omega arith);
-      exact = λ failed. (refl, omega arith);
+      stops = record {
+        at = w;
+        count_at = count_mid;
+        took = [];
+        left = [];
+        went = went_both so_far (went_heard w count_mid mid [] now talked);
+        are = refl;
+        one = omega arith;
+        most = (omega arith, omega arith);
+        exact = λ failed. (refl, omega arith);
+      };
+      stuck = λ failed none. absurd (cc);
     }
 
 -- behind a way that was gone
-pub breaks_behind : {v : Visit} {count : ℕ} {before : Option Told} {bs : List (List ℕ)} {is : List Item} {w : Visit} {count_mid : ℕ} {mid : Option Told}
+abbrev stops_behind : {v : Visit} {count : ℕ} {before : Option Told} {bs : List (List ℕ)} {is : List Item} {w : Visit} {count_mid : ℕ} {mid : Option Told}
     {why : Unsent} {cs : List (List ℕ)} {js : List Item} {count_after : ℕ} {now : Option Told}
-    → Went v count before bs is w count_mid mid → Breaks why w count_mid mid cs js count_after now
-    → Breaks why v count before (bs ++ cs) (is ++ js) count_after now
-breaks_behind {bs = bs} so_far b = record {
+    → Went v count before bs is w count_mid mid → Stops why w count_mid mid cs js count_after now
+    → Stops why v count before (bs ++ cs) (is ++ js) count_after now
+stops_behind {bs = bs} so_far b = record {
   at = b.at;
   count_at = b.count_at;
   took = bs ++ b.took;
@@ -126,6 +133,12 @@ breaks_behind {bs = bs} so_far b = record {
   exact = b.exact;
 }
 
+pub breaks_behind : {v : Visit} {count : ℕ} {before : Option Told} {bs : List (List ℕ)} {is : List Item} {w : Visit} {count_mid : ℕ} {mid : Option Told}
+    {why : Unsent} {cs : List (List ℕ)} {js : List Item} {count_after : ℕ} {now : Option Told}
+    → Went v count before bs is w count_mid mid → Breaks why w count_mid mid cs js count_after now
+    → Breaks why v count before (bs ++ cs) (is ++ js) count_after now
+breaks_behind so_far b = record { stops = stops_behind so_far b.stops; stuck = b.stuck }
+
 pub drains_behind : {v : Visit} {count : ℕ} {before : Option Told} {bs : List (List ℕ)} {w : Visit} {count_mid : ℕ} {mid : Option Told}
     {cs : List (List ℕ)} {x : Visit} {count_after : ℕ} {now : Option Told}
     → Went v count before bs [] w count_mid mid → Drains w count_mid mid cs x count_after now → Drains v count before (bs ++ cs) x count_after now
@@ -136,15 +149,18 @@ pub breaks_undelivered : (bytes : List ℕ) (v : Visit) (count : ℕ) (told : Op
 breaks_undelivered bytes v count told none =
     let first : first_cost v.pending ≡ 0 = ap first_cost none in
     record {
-      at = v;
-      count_at = count;
-      took = [];
-      left = bytes ∷ [];
-      went = went_none v count told;
-      are = refl;
-      one = omega arith;
-      most = (omega arith, omega arith);
-      exact = λ failed. absurd (cc);
+      stops = record {
+        at = v;
+        count_at = count;
+        took = [];
+        left = bytes ∷ [];
+        went = went_none v count told;
+        are = refl;
+        one = omega arith;
+        most = (omega arith, omega arith);
+        exact = λ failed. absurd (cc);
+      };
+      stuck = λ failed. absurd (cc);
     }
 
 -- ---- messages one after the other
@@ -196,10 +212,10 @@ breaks_next {v = v} {count = count} {before = before} {items = items} {w = w} {c
     (subst (λ js. Breaks why v count before ((map bytes_of items ++ []) ++ bytes ∷ []) js count_after now) (append-nil (items ++ m ∷ [])) all)
 
 -- no further message is taken
-pub breaks_here : {v : Visit} {count : ℕ} {before : Option Told} {items : List Item} {w : Visit} {count_mid : ℕ} {mid : Option Told}
+pub stops_here : {v : Visit} {count : ℕ} {before : Option Told} {items : List Item} {w : Visit} {count_mid : ℕ} {mid : Option Told}
     → (why : Unsent) (now : Option Told) → Answered v count before items w count_mid mid → Talked mid now [] []
-    → Breaks why v count before (map bytes_of items) items count_mid now
-breaks_here {v = v} {count = count} {before = before} {items = items} {w = w} {count_mid = count_mid} {mid = mid} why now so_far talked =
+    → Stops why v count before (map bytes_of items) items count_mid now
+stops_here {v = v} {count = count} {before = before} {items = items} {w = w} {count_mid = count_mid} {mid = mid} why now so_far talked =
     let none : first_cost w.pending ≡ 0 = ap first_cost so_far.1 in
     record {
       at = w;

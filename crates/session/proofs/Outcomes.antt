@@ -1,17 +1,17 @@
 -- What stands when a session ends.
-use Rattle.std.proofs.Common.{◌≡◌, ◌∙◌, refl, sym, ap, subst, ℕ, ◌+◌, ◌≤◌, List, [], ◌∷◌, ◌++◌, append-nil, length, map, arith}
+use Rattle.std.proofs.Common.{◌<◌, ◌⊎◌, ◌≡◌, ◌∙◌, refl, sym, ap, subst, ℕ, ◌+◌, ◌≤◌, List, [], ◌∷◌, ◌++◌, append-nil, length, map, arith}
 use Rattle.std.proofs.lemmas.List.{length-map}
 use Rattle.std.specs.Prelude.{All, Option}
 use Rattle.frame_meaning.specs.FrameText.{frame_text}
 use Rattle.kernel.proofs.SoloVisits.{goes_on}
 use Rattle.kernel.specs.Calls.{GoesOn, given_by, newest_after, parts_for, taken_by}
-use Rattle.kernel.specs.Visit.{Visit, first_cost}
+use Rattle.kernel.specs.Visit.{Visit}
 use Rattle.link_io.specs.Links.{Item, Told}
-use Rattle.visit_meaning.specs.Answer.{Part, cost_of_parts, frames_in}
+use Rattle.visit_meaning.specs.Answer.{cost_of_parts, frames_in}
 use Rattle.visit_meaning.specs.Messages.{AreMessages}
 use Rattle.session.proofs.Calling.{Answered}
 use Rattle.session.specs.Endings.{ended_for}
-use Rattle.session.specs.Progress.{Breaks}
+use Rattle.session.specs.Progress.{Stops}
 use Rattle.session.specs.Serving.{Counts, IsCounted, IsCutShort, IsServed, Serves, message_count_limit}
 use Rattle.session.specs.Talks.{IsNoClose, Talked, bytes_of}
 use Rattle.session.specs.declared.unsent.Unsent.{Unsent}
@@ -94,7 +94,7 @@ none_left (m ∷ items) e = absurd (cc)
 
 -- the parts that were given are a prefix of those for the messages that the kernel took
 abbrev broke : {why : Unsent} {v : Visit} {count : ℕ} {before : Option Told} {items : List Item} {count_after : ℕ} {now : Option Told}
-    → (b : Breaks why v count before (map bytes_of items) items count_after now) → All IsNoClose items → length items ≤ message_count_limit
+    → (b : Stops why v count before (map bytes_of items) items count_after now) → All IsNoClose items → length items ≤ message_count_limit
     → IsCutShort v before now
 broke {v = v} {count = count} {items = items} b unclosed few =
     let f = b.went in
@@ -119,16 +119,17 @@ broke {v = v} {count = count} {items = items} b unclosed few =
     }
 
 pub serves_cut : {v : Visit} {count : ℕ} {before : Option Told} {count_after : ℕ} {now : Option Told}
-    → (why : Unsent) (items : List Item) (after : Visit) → Breaks why v count before (map bytes_of items) items count_after now
-    → All IsNoClose items → length items ≤ message_count_limit → Serves (ended_for why) v before after now
-serves_cut unsent.Failed items after b unclosed few =
+    → (why : Unsent) (items : List Item) (after : Visit) → (b : Stops why v count before (map bytes_of items) items count_after now)
+    → All IsNoClose items → length items ≤ message_count_limit
+    → (why ≡ unsent.Failed → (length items < message_count_limit) ⊎ (b.at.pending ≡ [] → ⊥)) → Serves (ended_for why) v before after now
+serves_cut unsent.Failed items after b unclosed few room =
     let none = (b.exact refl).0 in
     let p : Parted items b.took b.left = parted items b.took b.left b.are in
-    (broke b unclosed few, none_left p.untaken (p.untaken_are ∙ none))
-serves_cut unsent.Memory items after b unclosed few = broke b unclosed few
+    (broke b unclosed few, none_left p.untaken (p.untaken_are ∙ none), room refl)
+serves_cut unsent.Memory items after b unclosed few room = broke b unclosed few
 
 pub counts_cut : {v : Visit} {count : ℕ} {before : Option Told} {count_after : ℕ} {now : Option Told}
-    → (why : Unsent) (items : List Item) → Breaks why v count before (map bytes_of items) items count_after now
+    → (why : Unsent) (items : List Item) → Stops why v count before (map bytes_of items) items count_after now
     → All IsNoClose items → length items ≤ message_count_limit → Counts (ended_for why) v before count count_after now
 counts_cut {v = v} {count = count} unsent.Failed items b unclosed few =
     let steps = (b.exact refl).1 in

@@ -33,7 +33,7 @@ whole_talk all items texts now t =
 
 pub many_solo : (nb : List CellCode) (budget : ℕ) (all : List Item) (after : Visit) (now : Told)
     → Serves ended.TooMany (begun nb budget) (Some (fresh all)) after (Some now)
-    → SentSolo nb budget now.taken now × (length now.taken ≡ 1000000) × (now.taken ++ now.left ≡ all)
+    → SentSolo nb budget now.taken now × (length now.taken ≡ 1000000) × (now.taken ++ now.left ≡ all) × All IsNoClose now.taken
 many_solo nb budget all after now h =
     let s = h.2 in
     let t = s.talked in
@@ -46,6 +46,7 @@ many_solo nb budget all after now h =
       },
       ap (λ (o : Told). length o.taken) is ∙ h.1,
       whole_talk all h.0 texts now t,
+      subst (All IsNoClose) (sym (ap (λ (o : Told). o.taken) is)) s.unclosed,
     )
 
 pub cut_solo : (nb : List CellCode) (budget : ℕ) (all : List Item) (now : Told) → (h : IsCutShort (begun nb budget) (Some (fresh all)) (Some now))
@@ -59,6 +60,7 @@ cut_solo nb budget all now h =
       messages = h.messages;
       are = h.are;
       taken = ap (λ (o : Told). o.taken) is ∙ h.are_all;
+      unclosed = subst (All IsNoClose) (sym (ap (λ (o : Told). o.taken) is)) h.unclosed;
       all_are = whole_talk all h.items h.texts now t;
       rest = rest;
       texts = ap (λ ts. ts ++ rest) (ap (λ (o : Told). o.sent) is ∙ p.texts)

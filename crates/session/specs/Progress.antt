@@ -26,7 +26,7 @@ pub record Drains (v : Visit) (count : ℕ) (before : Option Told) (bytes : List
 -- It went so far and no further: no more steps are counted than those of the next part. Where the link failed, the kernel took all messages,
 -- and where a part was still to come, it is one whose text couldn't be sent; its steps are counted. Where memory was wanting, there may be
 -- those of one message which the kernel didn't take.
-pub record Breaks (why : Unsent) (v : Visit) (count : ℕ) (before : Option Told) (bytes : List (List ℕ)) (items : List Item) (count_after : ℕ) (now : Option Told) : Type 0 where
+pub record Stops (why : Unsent) (v : Visit) (count : ℕ) (before : Option Told) (bytes : List (List ℕ)) (items : List Item) (count_after : ℕ) (now : Option Told) : Type 0 where
   pub at : Visit
   pub count_at : ℕ
   pub took : List (List ℕ)
@@ -36,3 +36,8 @@ pub record Breaks (why : Unsent) (v : Visit) (count : ℕ) (before : Option Told
   pub one : length left ≤ 1
   pub most : AtMostFirst at.pending count_at count_after
   pub exact : why ≡ unsent.Failed → (left ≡ []) × (count_after ≡ count_at + first_cost at.pending)
+
+-- It stopped while frames were sent: where the link failed, there is one that couldn't be.
+pub record Breaks (why : Unsent) (v : Visit) (count : ℕ) (before : Option Told) (bytes : List (List ℕ)) (items : List Item) (count_after : ℕ) (now : Option Told) : Type 0 where
+  pub stops : Stops why v count before bytes items count_after now
+  pub stuck : why ≡ unsent.Failed → stops.at.pending ≡ [] → ⊥

@@ -56,12 +56,14 @@ pub record IsCutShort (v : Visit) (before now : Option Told) : Type 0 where
   pub talked : Talked before now items texts
   pub begin : ArePrefix (parts_for v messages) texts
 
--- What was taken and sent when a session ends. Where it was closed, nothing more was read than the close message, if there was one.
+-- What was taken and sent when a session ends. Where it was closed, nothing more was read than the close message, if there was one. Where the
+-- link failed, not so many messages were answered as one call answers.
 abbrev pub Serves : Ended → Visit → Option Told → Visit → Option Told → Type 0
 Serves ended.Closed v before after now = (items : List Item) × (length items < message_count_limit)
     × (mid : Option Told) × IsServed v before items after mid × IsOver mid now
 Serves ended.TooMany v before after now = (items : List Item) × (length items ≡ message_count_limit) × IsServed v before items after now
 Serves ended.LinkFault v before after now = (c : IsCutShort v before now) × (c.untaken ≡ [])
+    × ((length c.items < message_count_limit) ⊎ (c.begin.rest ≡ [] → ⊥))
 Serves ended.Memory v before after now = IsCutShort v before now
 
 -- these messages were taken, and exactly the steps of the parts for them were counted
@@ -94,6 +96,7 @@ pub record SentSome (nb : List CellCode) (budget : ℕ) (all heard untaken : Lis
   pub messages : List Message
   pub are : AreMessages (map bytes_of heard) messages
   pub taken : now.taken ≡ heard ++ untaken
+  pub unclosed : All IsNoClose now.taken
   pub all_are : now.taken ++ now.left ≡ all
   pub rest : List (List ℕ)
   pub texts : now.sent ++ rest ≡ map frame_text (solo (view_cells nb) budget messages)

@@ -1,9 +1,10 @@
 // What holds of every visitor who is served over a link that tells.
-ghost use Rattle.std.specs.Prelude.{◌≡◌, ◌≤◌, ◌++◌, ℕ, List, [], Some, length};
+ghost use Rattle.std.specs.Prelude.{◌≡◌, ◌≤◌, ◌++◌, ℕ, All, List, [], Some, length};
 ghost use Rattle.kernel.specs.Visit.{Visit, begun};
 ghost use Rattle.link_io.specs.Links.{Item, Told, fresh};
 ghost use Rattle.py_tree.specs.declared.tree.CellCode.{CellCode};
 ghost use Rattle.session.specs.Serving.{SentClosed, SentSolo, SentSome, Serves};
+ghost use Rattle.session.specs.Talks.{IsNoClose};
 ghost use Rattle.session.specs.declared.ended.Ended.TheVariants as ended;
 
 /// What `serve_visitor` sends over a link that tells, on a kernel at its beginning, are the frames of a visitor alone who sends the messages that
@@ -16,7 +17,7 @@ pub fn sent_is_solo()
     ensures many { (nb : List CellCode) (budget : ℕ) (all : List Item) (after : Visit) (now : Told)
         → Serves ended.TooMany (begun nb budget) (Some (fresh all)) after (Some now)
         → SentSolo nb budget now.taken now × (length now.taken ≡ 1000000)
-        × (now.taken ++ now.left ≡ all) }
+        × (now.taken ++ now.left ≡ all) × All IsNoClose now.taken }
     ensures fault { (nb : List CellCode) (budget : ℕ) (all : List Item) (after : Visit) (now : Told)
         → Serves ended.LinkFault (begun nb budget) (Some (fresh all)) after (Some now)
         → SentSome nb budget all now.taken [] now }

@@ -1,9 +1,10 @@
 -- What the end of a session says of its visitor.
-use Rattle.std.specs.Prelude.{◌≡◌, ◌⊎◌, ◌≤◌, ℕ, List, [], ◌∷◌, ◌++◌, length, map, Option, Some}
+use Rattle.std.specs.Prelude.{◌≡◌, ◌<◌, All, ◌⊎◌, ◌≤◌, ℕ, List, [], ◌∷◌, ◌++◌, length, map, Option, Some}
 use Rattle.frame_meaning.specs.FrameText.{frame_text}
 use Rattle.link_io.specs.Links.{Item, Told}
 use Rattle.py_tree.specs.Trees.{Cell}
-use Rattle.session.specs.Talks.{bytes_of, close_text}
+use Rattle.session.specs.Serving.{message_count_limit}
+use Rattle.session.specs.Talks.{IsNoClose, bytes_of, close_text}
 use Rattle.session.specs.declared.ended.Ended.{Ended}
 use Rattle.session.specs.declared.ended.Ended.TheVariants as ended
 use Rattle.visit_meaning.specs.Answer.{Message, solo}
@@ -20,12 +21,15 @@ alone_in nb budget items texts =
 
 -- Closed: the link was read to its end or to a close message, and the texts that were sent are exactly those for the messages before it. TooMany:
 -- exactly those for 1,000,000 messages. Else a prefix of those for the messages that were taken, but for one at most where memory was wanting.
+-- No close message is among those that were answered.
 abbrev pub Ends : Alone → Ended → Told → Type 0
-Ends alone ended.Closed t = (items : List Item) × alone items t.sent
+Ends alone ended.Closed t = (items : List Item) × All IsNoClose items × (length items < message_count_limit) × alone items t.sent
     × (((t.taken ≡ items) × (t.left ≡ [])) ⊎ (t.taken ≡ items ++ Some close_text ∷ []))
-Ends alone ended.TooMany t = (length t.taken ≡ 1000000) × alone t.taken t.sent
-Ends alone ended.LinkFault t = (texts : List (List ℕ)) × alone t.taken texts × (rest : List (List ℕ)) × (t.sent ++ rest ≡ texts)
-Ends alone ended.Memory t = (heard : List Item) × (untaken : List Item) × (t.taken ≡ heard ++ untaken) × (length untaken ≤ 1)
+Ends alone ended.TooMany t = All IsNoClose t.taken × (length t.taken ≡ message_count_limit) × alone t.taken t.sent
+Ends alone ended.LinkFault t = All IsNoClose t.taken × (length t.taken ≤ message_count_limit)
+    × (texts : List (List ℕ)) × alone t.taken texts × (rest : List (List ℕ)) × (t.sent ++ rest ≡ texts)
+Ends alone ended.Memory t = All IsNoClose t.taken × (length t.taken ≤ message_count_limit)
+    × (heard : List Item) × (untaken : List Item) × (t.taken ≡ heard ++ untaken) × (length untaken ≤ 1)
     × (texts : List (List ℕ)) × alone heard texts × (rest : List (List ℕ)) × (t.sent ++ rest ≡ texts)
 
 -- a visitor who came with these messages, once the session ended

@@ -2,7 +2,7 @@
 use Rattle.std.proofs.Common.{◌≤◌, ◌≡◌, ◌∙◌, inl, inr, sym, subst, ◌∷◌, [], ◌++◌, arith, length}
 use Rattle.std.proofs.lemmas.List.{length-append}
 use Rattle.std.proofs.lemmas.List.Elements.{All-nil}
-use Rattle.session.proofs.Calling.{answered_next, breaks_here, breaks_next, unclosed_more}
+use Rattle.session.proofs.Calling.{answered_next, stops_here, breaks_next, unclosed_more}
 use Rattle.session.proofs.Outcomes.{counted, counts_cut, served, serves_cut}
 use Rattle.session.specs.Serving.{Counts, Serves}
 use Rattle.session.specs.Talks.{IsNoClose}
@@ -27,13 +27,13 @@ pub returns-in-Err-clause-serves : goal.returns-in-Err-clause-serves
 returns-in-Err-clause-serves g c =
     let told = g.K.Link.told c.args.link.now in
     subst (λ end. Serves end c.args.kernel.now told c.drain.new.kernel (g.K.Link.told c.drain.new.link)) (sym c.ended_of.ensures)
-    (serves_cut c.in-Err.why [] c.drain.new.kernel c.in-Err.ensures.broke (All-nil IsNoClose) (omega arith))
+    (serves_cut c.in-Err.why [] c.drain.new.kernel c.in-Err.ensures.broke.stops (All-nil IsNoClose) (omega arith) (λ failed. inr (c.in-Err.ensures.broke.stuck failed)))
 
 pub returns-in-Err-clause-steps : goal.returns-in-Err-clause-steps
 returns-in-Err-clause-steps g c =
     let told = g.K.Link.told c.args.link.now in
     subst (λ end. Counts end c.args.kernel.now told c.args.steps.now c.drain.new.steps (g.K.Link.told c.drain.new.link)) (sym c.ended_of.ensures)
-    (counts_cut c.in-Err.why [] c.in-Err.ensures.broke (All-nil IsNoClose) (omega arith))
+    (counts_cut c.in-Err.why [] c.in-Err.ensures.broke.stops (All-nil IsNoClose) (omega arith))
 
 pub returns-in-Err-answer_message-clause-serves : goal.returns-in-Err-answer_message-clause-serves
 returns-in-Err-answer_message-clause-serves g c =
@@ -45,7 +45,8 @@ returns-in-Err-answer_message-clause-serves g c =
     let broke = breaks_next heard.0 c.as_slice.result.now (g.K.Link.told c.hear.new.link) c.answer_message.new.steps now
     so_far.2 (heard.1 ∙ sym c.as_slice.ensures.value) heard.3 c.in-Err-answer_message.ensures.broke in
     subst (λ end. Serves end c.args.kernel.now told c.answer_message.new.kernel now) (sym c.ended_of-in-Err-answer_message.ensures)
-    (serves_cut c.in-Err-answer_message.why (so_far.0 ++ heard.0 ∷ []) c.answer_message.new.kernel broke (unclosed_more so_far.0 heard.0 so_far.2.3 heard.2) few)
+    (serves_cut c.in-Err-answer_message.why (so_far.0 ++ heard.0 ∷ []) c.answer_message.new.kernel broke.stops (unclosed_more so_far.0 heard.0 so_far.2.3 heard.2) few
+    (λ failed. inr (broke.stuck failed)))
 
 pub returns-in-Err-answer_message-clause-steps : goal.returns-in-Err-answer_message-clause-steps
 returns-in-Err-answer_message-clause-steps g c =
@@ -57,7 +58,7 @@ returns-in-Err-answer_message-clause-steps g c =
     let broke = breaks_next heard.0 c.as_slice.result.now (g.K.Link.told c.hear.new.link) c.answer_message.new.steps now
     so_far.2 (heard.1 ∙ sym c.as_slice.ensures.value) heard.3 c.in-Err-answer_message.ensures.broke in
     subst (λ end. Counts end c.args.kernel.now told c.args.steps.now c.answer_message.new.steps now) (sym c.ended_of-in-Err-answer_message.ensures)
-    (counts_cut c.in-Err-answer_message.why (so_far.0 ++ heard.0 ∷ []) broke (unclosed_more so_far.0 heard.0 so_far.2.3 heard.2) few)
+    (counts_cut c.in-Err-answer_message.why (so_far.0 ++ heard.0 ∷ []) broke.stops (unclosed_more so_far.0 heard.0 so_far.2.3 heard.2) few)
 
 pub returns-in-Close-clause-serves : goal.returns-in-Close-clause-serves
 returns-in-Close-clause-serves g c =
@@ -82,25 +83,26 @@ returns-in-End-clause-steps g c =
 pub returns-in-Failed-clause-serves : goal.returns-in-Failed-clause-serves
 returns-in-Failed-clause-serves g c =
     let so_far = c.loop.invariant.1 in
-    let here = breaks_here unsent.Failed (g.K.Link.told c.hear.new.link) so_far.2 (rw c.in-Failed.is at c.hear.ensures.hears) in
+    let here = stops_here unsent.Failed (g.K.Link.told c.hear.new.link) so_far.2 (rw c.in-Failed.is at c.hear.ensures.hears) in
     serves_cut unsent.Failed so_far.0 c.loop.kernel here so_far.2.3 (omega (arith, so_far.1, c.loop-test.true))
+    (λ failed. inl (omega (arith, so_far.1, c.loop-test.true)))
 
 pub returns-in-Failed-clause-steps : goal.returns-in-Failed-clause-steps
 returns-in-Failed-clause-steps g c =
     let so_far = c.loop.invariant.1 in
-    let here = breaks_here unsent.Failed (g.K.Link.told c.hear.new.link) so_far.2 (rw c.in-Failed.is at c.hear.ensures.hears) in
+    let here = stops_here unsent.Failed (g.K.Link.told c.hear.new.link) so_far.2 (rw c.in-Failed.is at c.hear.ensures.hears) in
     counts_cut unsent.Failed so_far.0 here so_far.2.3 (omega (arith, so_far.1, c.loop-test.true))
 
 pub returns-in-Memory-clause-serves : goal.returns-in-Memory-clause-serves
 returns-in-Memory-clause-serves g c =
     let so_far = c.loop.invariant.1 in
-    let here = breaks_here unsent.Memory (g.K.Link.told c.hear.new.link) so_far.2 (rw c.in-Memory.is at c.hear.ensures.hears) in
-    serves_cut unsent.Memory so_far.0 c.loop.kernel here so_far.2.3 (omega (arith, so_far.1, c.loop-test.true))
+    let here = stops_here unsent.Memory (g.K.Link.told c.hear.new.link) so_far.2 (rw c.in-Memory.is at c.hear.ensures.hears) in
+    serves_cut unsent.Memory so_far.0 c.loop.kernel here so_far.2.3 (omega (arith, so_far.1, c.loop-test.true)) (λ failed. absurd (cc))
 
 pub returns-in-Memory-clause-steps : goal.returns-in-Memory-clause-steps
 returns-in-Memory-clause-steps g c =
     let so_far = c.loop.invariant.1 in
-    let here = breaks_here unsent.Memory (g.K.Link.told c.hear.new.link) so_far.2 (rw c.in-Memory.is at c.hear.ensures.hears) in
+    let here = stops_here unsent.Memory (g.K.Link.told c.hear.new.link) so_far.2 (rw c.in-Memory.is at c.hear.ensures.hears) in
     counts_cut unsent.Memory so_far.0 here so_far.2.3 (omega (arith, so_far.1, c.loop-test.true))
 
 pub returns-clause-serves : goal.returns-clause-serves
