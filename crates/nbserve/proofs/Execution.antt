@@ -6,7 +6,8 @@ use Rattle.link_io.proofs.Taken.{rose_since, took_both}
 use Rattle.visit_meaning.specs.Answer.{Before, Message, Part, parts_from, solo, work}
 use Rattle.frame_meaning.specs.FrameText.{labelled}
 use Rattle.program_meaning.specs.Program as program
-use Rattle.program_meaning.specs.Program.{Comes, Command, Play, command_of, notebook_of, AreRead, FailsFirst, IsLoaded, Refusal, read_of, refusal_text, usual_budget}
+use Rattle.command_meaning.specs.Commands.{Command, Play, command_of, notebook_of}
+use Rattle.program_meaning.specs.Program.{Comes, AreRead, FailsFirst, IsLoaded, Refusal, read_of, refusal_text, usual_budget}
 use Rattle.program_meaning.specs.Scripts.{FaultAt, fault_text}
 use Rattle.py_tree.specs.Trees.{Cell}
 use Rattle.nbserve.specs.Execution as done

@@ -5,3 +5,7 @@ pub mod OneRefusal
 pub mod Execution
 -- For `run_words`: what was written at each status, and what it tells.
 pub mod Output
+-- For `serve`, and what its status tells.
+pub mod Service
+-- For `run_top`.
+pub mod Top

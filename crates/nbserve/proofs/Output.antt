@@ -6,7 +6,8 @@ use Rattle.link_io.specs.Outside.{Took}
 use Rattle.nbserve.proofs.OneRefusal.{none_refused, one_notebook}
 use Rattle.visit_meaning.specs.Answer.{Before, Message, Open, cost_of_parts, frames_in, parts_from, work}
 use Rattle.program_meaning.specs.Program as program
-use Rattle.program_meaning.specs.Program.{Comes, Command, Once, Play, command_of, notebook_of, AreRead, IsAccepted, IsLoaded, IsRefused, Refusal, FailsFirst, read_of, once_text, usual_budget}
+use Rattle.command_meaning.specs.Commands.{Command, Once, Play, command_of, notebook_of}
+use Rattle.program_meaning.specs.Program.{Comes, AreRead, IsAccepted, IsLoaded, IsRefused, Refusal, FailsFirst, read_of, once_text, usual_budget}
 use Rattle.program_meaning.specs.Scripts.{Script, IsScript, IsNoScript, FaultAt, messages_of, script_text}
 use Rattle.py_tree.specs.Trees.{Cell}
 use Rattle.program_meaning.proofs.ScriptTexts as scripts_read
@@ -47,10 +48,10 @@ told_read o all bytes e r =
     let h : (rest : List ℕ) × (Some all ≡ Some rest) × (bytes ≡ read_of rest) = subst (λ p. IfSome p (λ told. (rest : List ℕ) × (told ≡ Some rest) × (bytes ≡ read_of rest))) e r in
     h.2 ∙ ap read_of (same_bytes (Some all) h.0 all h.1 refl)
 
-read_is : (holds : List ℕ → Option (Option (List ℕ))) (f file bytes all : List ℕ) → f ≡ file → holds file ≡ Some (Some all) → AreRead holds f bytes → bytes ≡ read_of all
+pub read_is : (holds : List ℕ → Option (Option (List ℕ))) (f file bytes all : List ℕ) → f ≡ file → holds file ≡ Some (Some all) → AreRead holds f bytes → bytes ≡ read_of all
 read_is holds f file bytes all same told r = told_read (holds file) all bytes told (subst (λ n. AreRead holds n bytes) same r)
 
-loaded_is : (holds : List ℕ → Option (Option (List ℕ))) (f file all : List ℕ) (nb : List Cell) → f ≡ file → holds file ≡ Some (Some all) → IsLoaded holds f nb → IsAccepted (read_of all) nb
+pub loaded_is : (holds : List ℕ → Option (Option (List ℕ))) (f file all : List ℕ) (nb : List Cell) → f ≡ file → holds file ≡ Some (Some all) → IsLoaded holds f nb → IsAccepted (read_of all) nb
 loaded_is holds f file all nb same told l = subst (λ bytes. IsAccepted bytes nb) (read_is holds f file l.0 all same told l.1) l.2
 
 none_asked : (words : List (List ℕ)) (a : Command) → command_of words ≡ None → command_of words ≡ Some a → ⊥

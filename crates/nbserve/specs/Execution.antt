@@ -3,7 +3,8 @@ use Rattle.std.specs.Prelude.{◌≡◌, ℕ, ◌+◌, List, [], ◌∷◌, ◌+
 use Rattle.link_io.specs.Outside.{Took}
 use Rattle.visit_meaning.specs.Answer.{Before, Message, Open, parts_from, solo, work}
 use Rattle.frame_meaning.specs.FrameText.{labelled}
-use Rattle.program_meaning.specs.Program.{Once, Play, command_of, AreRead, IsLoaded, usual_budget}
+use Rattle.command_meaning.specs.Commands.{Once, Play, command_of}
+use Rattle.program_meaning.specs.Program.{AreRead, IsLoaded, usual_budget}
 use Rattle.program_meaning.specs.Scripts.{Script, IsScript, messages_of}
 use Rattle.py_tree.specs.Trees.{Cell}
 use Rattle.script_run.specs.Cut.{IsCutOff}

@@ -1,8 +1,9 @@
-pub mod Command
 pub mod CommandFault
 pub mod Execution
 pub mod LoadFault
 pub mod Output
 pub mod Refusal
+pub mod Service
 pub mod Shows
+pub mod Top
 pub mod Works

@@ -1,7 +1,7 @@
 -- What follows for a status, a command or a file alone from what a run comes to.
 use Rattle.std.specs.Prelude.{◌≡◌, ◌⊎◌, ℕ, ◌+◌, ◌≤◌, List, Option, None, Some}
-use Rattle.program_meaning.specs.Program as program
-use Rattle.program_meaning.specs.Program.{IsAccepted, IsRefused, command_of, notebook_of, read_of, usual_budget}
+use Rattle.command_meaning.specs.Commands.{Command, Play, command_of, notebook_of}
+use Rattle.program_meaning.specs.Program.{IsAccepted, IsRefused, read_of, usual_budget}
 use Rattle.program_meaning.specs.Scripts.{IsNoScript}
 use Rattle.py_tree.specs.Trees.{Cell}
 use Rattle.script_run.specs.Cut.{IsCutOff}
@@ -31,13 +31,13 @@ pub record Shows (holds : List ℕ → Option (Option (List ℕ))) (unread unwri
   pub accepted : (nb : List Cell) (ms : List Message) → Works holds words nb ms → (status ≡ 0) ⊎ (status ≡ 3) ⊎ (status ≡ 4) ⊎ (status ≡ 5)
   pub complete : (nb : List Cell) (ms : List Message) → Works holds words nb ms → (unread → ⊥) → (unwritten → ⊥) → (status ≡ 0) ⊎ (status ≡ 5)
   pub steps : status ≡ 0 → (nb : List Cell) (ms : List Message) → Works holds words nb ms → count_after ≡ count + work nb usual_budget ms
-  pub cut : status ≡ 4 → (asked : program.Command) (nb : List Cell) (ms : List Message) → command_of words ≡ Some asked → Works holds words nb ms → (unread → ⊥)
+  pub cut : status ≡ 4 → (asked : Command) (nb : List Cell) (ms : List Message) → command_of words ≡ Some asked → Works holds words nb ms → (unread → ⊥)
       → IsCutOff (label_of asked) (last_of asked) (parts_from nb usual_budget Before ms) before now count count_after
-  pub prefix : status ≡ 5 → (asked : program.Command) (nb : List Cell) (ms : List Message) → command_of words ≡ Some asked → Works holds words nb ms
+  pub prefix : status ≡ 5 → (asked : Command) (nb : List Cell) (ms : List Message) → command_of words ≡ Some asked → Works holds words nb ms
       → WrotePrefix (label_of asked) (parts_from nb usual_budget Before ms) before now count count_after
-  pub refused : (asked : program.Command) (all : List ℕ) → command_of words ≡ Some asked → holds (notebook_of asked) ≡ Some (Some all) → IsRefused (read_of all)
+  pub refused : (asked : Command) (all : List ℕ) → command_of words ≡ Some asked → holds (notebook_of asked) ≡ Some (Some all) → IsRefused (read_of all)
       → (status ≡ 1) ⊎ (status ≡ 3) ⊎ (status ≡ 4) ⊎ (status ≡ 5)
-  pub no_script : (file script all text : List ℕ) (nb : List Cell) → command_of words ≡ Some (program.Play file script)
+  pub no_script : (file script all text : List ℕ) (nb : List Cell) → command_of words ≡ Some (Play file script)
       → holds file ≡ Some (Some all) → IsAccepted (read_of all) nb → holds script ≡ Some (Some text) → IsNoScript (read_of text)
       → (status ≡ 6) ⊎ (status ≡ 3) ⊎ (status ≡ 4) ⊎ (status ≡ 5)
   pub unrun : (status ≡ 1) ⊎ (status ≡ 2) ⊎ (status ≡ 3) ⊎ (status ≡ 6) → count_after ≡ count

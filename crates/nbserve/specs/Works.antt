@@ -1,7 +1,8 @@
 -- Commands that can be carried out.
 use Rattle.std.specs.Prelude.{◌≡◌, ℕ, List, [], ◌∷◌, codes, Option, Some}
 use Rattle.visit_meaning.specs.Answer.{Message, Open}
-use Rattle.program_meaning.specs.Program.{Command, Once, Play, command_of, IsAccepted, read_of}
+use Rattle.command_meaning.specs.Commands.{Command, Once, Play, command_of}
+use Rattle.program_meaning.specs.Program.{IsAccepted, read_of}
 use Rattle.program_meaning.specs.Scripts.{Script, IsScript, messages_of}
 use Rattle.py_tree.specs.Trees.{Cell}
 

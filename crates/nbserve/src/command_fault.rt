@@ -30,6 +30,9 @@ pub const WANT_OF_MEMORY: u8 = 5;
 
 const NO_SCRIPT: u8 = 6;
 
+/// A door failed.
+pub const DOOR_FAULT: u8 = 7;
+
 /// Why a command isn't carried out.
 #[derive(Debug, Drop)]
 pub enum CommandFault {

@@ -1,56 +1,68 @@
-//! The program that opens a notebook, or replays a visitor of one.
+//! The program that opens a notebook, replays a visitor of one, or serves it to visitors.
 #![tactic(auto)]
 
 ghost use Rattle.std.specs.Prelude.{◌≡◌, ◌<◌, map, string_bytes};
 ghost use Rattle.std.specs.Process.{exit_status};
 ghost use Rattle.link_io.specs.Outside.{Rose};
-ghost use Rattle.nbserve.specs.Output.{RunsTo};
+ghost use Rattle.nbserve.specs.Top.{ComesTo};
 
-mod command;
 mod command_fault;
+mod commands;
 pub mod laws;
 mod loader;
 mod refusal;
+mod serve;
 #[cfg(test)]
 mod tests;
 mod top;
 
 use command_fault::WANT_OF_MEMORY;
-use link_io::{Files, RealFiles, RealOut, Sink};
+use link_io::{Files, Porch, RealFiles, RealOut, Sink, TcpPorch};
 use py_eval::Steps;
 use std::alloc::Global;
 use std::env;
 use std::io::ErrorKind;
 use std::marker::Brand;
 use std::process::ExitCode;
+use std::sync::Wait;
 use std::sync::ledger::{Blank, Ledger};
-use top::run_words;
+use std::thread::Threads;
+use top::run_top;
 
 // Runs the program, and ends the process with its status.
-fn end_process<F: Files, O: Sink, L: Ledger>(
+fn end_process<R: Threads + Wait + Sync, F: Files, O: Sink, P: Porch, L: Ledger>(
+    rt: &R,
     alloc: Global,
     words: &[String],
     files: &mut F,
     out: &mut O,
+    porch: &mut P,
     steps: &mut Steps<L>,
 ) -> ExitCode
-    ensures { RunsTo (F.holds files.old) (Rose (F.faults files.old) (F.faults files.new))
+    ensures { ComesTo (F.holds files.old) (Rose (F.faults files.old) (F.faults files.new))
+        (Rose (P.faults porch.old) (P.faults porch.new))
         (Rose (O.faults out.old) (O.faults out.new))
         (map string_bytes words.now) (exit_status result) (O.taken out.old) (O.taken out.new)
-        steps.old steps.new }
+        (P.told porch.old) (P.told porch.new) steps.old steps.new }
 {
-    let status = run_words(alloc, words, files, out, steps);
+    let status = run_top(rt, alloc, words, files, out, porch, steps);
     ExitCode::from(status)
 }
 
-// Runs the program over the files of the system and the standard output. Nothing reads the count of its steps.
-fn run_really<L: Ledger>(rt: &HostRuntime, words: &[String], blank: Blank) -> ExitCode
+// Runs the program with a new count of steps, which nothing reads.
+fn run_counted<R: Threads + Wait + Sync, F: Files, O: Sink, P: Porch, L: Ledger>(
+    rt: &R,
+    alloc: Global,
+    words: &[String],
+    files: &mut F,
+    out: &mut O,
+    porch: &mut P,
+    blank: Blank,
+) -> ExitCode
     requires { (blank.name ≡ L.name) × (blank.parts ≡ L.parts) × (0 < blank.parts) }
 {
-    let mut files = RealFiles::new(rt);
-    let mut out = RealOut::new(rt);
     let mut steps = Steps::<L>::new(blank);
-    end_process(rt.alloc(), words, &mut files, &mut out, &mut steps)
+    end_process(rt, alloc, words, files, out, porch, &mut steps)
 }
 
 // The words of the command line without the program's own name; none where memory is wanting. A word that is no text is no word
@@ -71,8 +83,19 @@ fn words_of(rt: &HostRuntime) -> Option<Vec<String>> {
 }
 
 fn main(rt: HostRuntime) -> ExitCode {
-    match words_of(&rt) {
-        Some(words) => run_really::<Brand>(&rt, words.as_slice(), Blank::new(1)),
-        None => ExitCode::from(WANT_OF_MEMORY),
-    }
+    let Some(words) = words_of(&rt) else {
+        return ExitCode::from(WANT_OF_MEMORY);
+    };
+    let mut files = RealFiles::new(&rt);
+    let mut out = RealOut::new(&rt);
+    let mut porch = TcpPorch::new(rt.alloc(), rt);
+    run_counted::<HostRuntime, RealFiles<&HostRuntime>, RealOut<&HostRuntime>, TcpPorch<HostRuntime>, Brand>(
+        &rt,
+        rt.alloc(),
+        words.as_slice(),
+        &mut files,
+        &mut out,
+        &mut porch,
+        Blank::new(1),
+    )
 }

@@ -1,197 +1,59 @@
 // The top call.
-ghost use Rattle.std.specs.Prelude.{◌≡◌, ℕ, ◌≤◌, IfErr, IfOk, List, map, OnErr, string_bytes, None};
+ghost use Rattle.std.specs.Prelude.{◌≡◌, ℕ, ◌≤◌, List, map, string_bytes, None};
+ghost use Rattle.command_meaning.specs.Commands.{command_of};
+ghost use Rattle.command_meaning.specs.Services.{service_of};
 ghost use Rattle.link_io.specs.Outside.{Rose};
-ghost use Rattle.nbserve.specs.Execution.{Carried, IsDone, IsPlayed};
-ghost use Rattle.nbserve.specs.CommandFault.{IsStopped, IsUnloaded, IsUnplayed, IsUnread};
-ghost use Rattle.nbserve.specs.Output.{RunsTo};
-ghost use Rattle.nbserve.specs.Shows.{Shows};
-ghost use Rattle.visit_meaning.specs.Answer.{Message};
-ghost use Rattle.visit_meaning.specs.Messages.{AreMessages};
-ghost use Rattle.program_meaning.specs.Program.{AreRead, IsLoaded, command_of};
-ghost use Rattle.visit_meaning.specs.Runnable.{Runnable};
-ghost use Rattle.py_tree.specs.View.{view_cells};
+ghost use Rattle.nbserve.specs.Top.{ComesTo, TopShows};
 
-use crate::command::{Command, read_command};
-use crate::command_fault::{
-    CommandFault, DONE, WANT_OF_MEMORY, WRITE_FAULT, end_stopped, end_with,
-};
-use crate::loader::load;
-use cell_graph::Notebook;
-use kernel::OPEN_MESSAGE;
-use link_io::{Files, ReadFault, Sink, read_file};
+use crate::commands::run_words;
+use crate::serve::serve;
+use cli_words::read_service;
+use link_io::{Files, Porch, Sink};
 use py_eval::Steps;
-use py_tree::BYTE_LIMIT;
-use script_run::{PlayFault, play, read_script};
 use std::alloc::Global;
+use std::sync::Wait;
 use std::sync::ledger::Ledger;
+use std::thread::Threads;
 
-// The usual budget of a cell, in steps.
-const USUAL_BUDGET: u64 = 200_000;
-
-// What stands before each frame of a script's visitor.
-const VISITOR_LABEL: &[u8] = b"1 ";
-
-// The line behind the frames of a script: how many cached blocks ran, and how many were taken from the cache.
-const LAST_LINE: &[u8] = b"end runs 0 hits 0\n";
-
-// The bytes of a file, or one more than the limit where it has more.
-fn bytes_in<F: Files>(alloc: Global, files: &mut F, file: &str) -> Result<Vec<u8>, CommandFault>
-    ensures read { IfOk result (λ bytes. AreRead (F.holds files.old) file.now bytes.items) }
-    ensures unread { IfErr result
-        (λ why. IsUnread why (Rose (F.faults files.old) (F.faults files.new))) }
-    ensures same { (other : List ℕ) → F.holds files.new other ≡ F.holds files.old other }
-    ensures later { F.faults files.old ≤ F.faults files.new }
-{
-    match read_file(alloc, files, file, BYTE_LIMIT as u64) {
-        Ok(bytes) => Ok(bytes),
-        Err(ReadFault::Failed) => Err(CommandFault::Unread),
-        Err(ReadFault::Memory) => Err(CommandFault::Memory),
-    }
-}
-
-// The notebook of a file.
-fn notebook_in<F: Files>(alloc: Global, files: &mut F, file: &str) -> Result<Notebook, CommandFault>
-    ensures loaded { IfOk result (λ nb. IsLoaded (F.holds files.old) file.now (view_cells nb)) }
-    ensures unloaded { IfErr result
-        (λ why. IsUnloaded (F.holds files.old)
-        (Rose (F.faults files.old) (F.faults files.new)) file.now why) }
-    ensures same { (other : List ℕ) → F.holds files.new other ≡ F.holds files.old other }
-    ensures later { F.faults files.old ≤ F.faults files.new }
-{
-    let bytes = bytes_in(alloc, files, file)?;
-    load(alloc, bytes.as_slice())
-}
-
-// Plays messages, and then writes a last text.
-fn perform<O: Sink, L: Ledger>(
-    alloc: Global,
-    notebook: &Notebook,
-    label: &[u8],
-    messages: &[&[u8]],
-    last: &[u8],
-    out: &mut O,
-    steps: &mut Steps<L>,
-) -> u8
-    requires { Runnable (view_cells notebook.now) }
-    ensures done { (ms : List Message) → AreMessages (map (λ m. m.now) messages.now) ms
-        → IsDone (view_cells notebook.now) ms label.now last.now result
-        (O.taken out.old) (O.taken out.new)
-        (Rose (O.faults out.old) (O.faults out.new)) steps.old steps.new }
-    ensures writes_later { O.faults out.old ≤ O.faults out.new }
-{
-    match play(alloc, notebook, USUAL_BUDGET, label, messages, out, steps) {
-        Ok(()) => end_with(out, last, DONE),
-        Err(PlayFault::WriteFault) => WRITE_FAULT,
-        Err(PlayFault::Memory) => WANT_OF_MEMORY,
-    }
-}
-
-// Plays the script of a file.
-fn perform_script<F: Files, O: Sink, L: Ledger>(
-    alloc: Global,
-    notebook: &Notebook,
-    file: &str,
-    files: &mut F,
-    out: &mut O,
-    steps: &mut Steps<L>,
-) -> Result<u8, CommandFault>
-    requires { Runnable (view_cells notebook.now) }
-    ensures played { IfOk result
-        (λ status. IsPlayed (F.holds files.old) file.now (view_cells notebook.now) status
-        (O.taken out.old) (O.taken out.new)
-        (Rose (O.faults out.old) (O.faults out.new)) steps.old steps.new) }
-    ensures unplayed { IfErr result
-        (λ why. IsUnplayed (F.holds files.old)
-        (Rose (F.faults files.old) (F.faults files.new)) file.now why) }
-    ensures kept { OnErr result (out.new ≡ out.old) }
-    ensures still { OnErr result (steps.new ≡ steps.old) }
-    ensures same { (other : List ℕ) → F.holds files.new other ≡ F.holds files.old other }
-    ensures later { F.faults files.old ≤ F.faults files.new }
-    ensures writes_later { O.faults out.old ≤ O.faults out.new }
-{
-    let bytes = bytes_in(alloc, files, file)?;
-    let messages = read_script(alloc, bytes.as_slice())?;
-    Ok(perform(
-        alloc,
-        notebook,
-        VISITOR_LABEL,
-        messages.as_slice(),
-        LAST_LINE,
-        out,
-        steps,
-    ))
-}
-
-// Carries out the command that the words ask for, and answers the status; or why it isn't carried out, and then nothing was written and
-// no step counted.
-fn carry_out<F: Files, O: Sink, L: Ledger>(
+/// Does what the words ask for, and answers the program's status: 0 done, 1 refused notebook, 2 usage, 3 read fault, 4 write fault, 5 want of
+/// memory, 6 no script, 7 door fault. The words don't include the program's own name. `run` waits for visitors; every other command waits for
+/// nobody, as `run_words` does it.
+pub fn run_top<R: Threads + Wait + Sync, F: Files, O: Sink, P: Porch, L: Ledger>(
+    rt: &R,
     alloc: Global,
     words: &[String],
     files: &mut F,
     out: &mut O,
-    steps: &mut Steps<L>,
-) -> Result<u8, CommandFault>
-    ensures carried { IfOk result
-        (λ status. Carried (F.holds files.old) (map string_bytes words.now) status
-        (O.taken out.old) (O.taken out.new)
-        (Rose (O.faults out.old) (O.faults out.new)) steps.old steps.new) }
-    ensures stopped { IfErr result
-        (λ why. IsStopped (F.holds files.old) (Rose (F.faults files.old) (F.faults files.new))
-        (map string_bytes words.now) why) }
-    ensures untouched { command_of (map string_bytes words.now) ≡ None → files.new ≡ files.old }
-    ensures kept { OnErr result (out.new ≡ out.old) }
-    ensures still { OnErr result (steps.new ≡ steps.old) }
-    ensures same { (other : List ℕ) → F.holds files.new other ≡ F.holds files.old other }
-    ensures later { F.faults files.old ≤ F.faults files.new }
-    ensures writes_later { O.faults out.old ≤ O.faults out.new }
-{
-    let Some(command) = read_command(words) else {
-        return Err(CommandFault::Usage);
-    };
-    let notebook = notebook_in(alloc, files, command.notebook())?;
-    match command {
-        Command::Once { .. } => Ok(perform(
-            alloc,
-            &notebook,
-            b"",
-            &[OPEN_MESSAGE.as_bytes()],
-            b"",
-            out,
-            steps,
-        )),
-        Command::Play { script, .. } => perform_script(alloc, &notebook, script, files, out, steps),
-    }
-}
-
-/// Carries out the command that the words ask for, and answers the program's status: 0 done, 1 refused notebook, 2 usage,
-/// 3 read fault, 4 write fault, 5 want of memory, 6 no script. The words don't include the program's own name.
-pub fn run_words<F: Files, O: Sink, L: Ledger>(
-    alloc: Global,
-    words: &[String],
-    files: &mut F,
-    out: &mut O,
+    porch: &mut P,
     steps: &mut Steps<L>,
 ) -> u8
-    // What it comes to, whatever is told and whatever fails: the text that was written, and the steps that were counted. At 0 these are the
-    // frames of the opening or the text of the script, at 1 why the notebook is refused, at 2 `usage`, at 3 `read fault`, at 6 why the bytes
-    // of the script are none; at 4 less than one of these, cut where the write failed; at 5 whole lines of frames, or nothing.
-    ensures runs { RunsTo (F.holds files.old) (Rose (F.faults files.old) (F.faults files.new))
+    // What it comes to, whatever is told and whatever fails. For `run`: the report at 0, and at 7 where a door failed; `door fault` at 7; why
+    // the notebook is refused at 1; `read fault` at 3; less than one of these at 4; nothing at 5. For other words what `run_words` comes to.
+    ensures comes { ComesTo (F.holds files.old) (Rose (F.faults files.old) (F.faults files.new))
+        (Rose (P.faults porch.old) (P.faults porch.new))
         (Rose (O.faults out.old) (O.faults out.new))
-        (map string_bytes words.now) result (O.taken out.old) (O.taken out.new) steps.old steps.new }
+        (map string_bytes words.now) result (O.taken out.old) (O.taken out.new)
+        (P.told porch.old) (P.told porch.new) steps.old steps.new }
 
-    // What names of files stand for stays, and no count of faults falls. Words that are no form touch no file.
+    // What names of files stand for stays, and no count of faults falls. Words that ask for no service leave the porch, and such that are no
+    // form the files.
     ensures same { (other : List ℕ) → F.holds files.new other ≡ F.holds files.old other }
     ensures later { F.faults files.old ≤ F.faults files.new }
     ensures writes_later { O.faults out.old ≤ O.faults out.new }
-    ensures untouched { command_of (map string_bytes words.now) ≡ None → files.new ≡ files.old }
+    ensures doors_later { P.faults porch.old ≤ P.faults porch.new }
+    ensures unvisited { service_of (map string_bytes words.now) ≡ None → porch.new ≡ porch.old }
+    ensures untouched { command_of (map string_bytes words.now) ≡ None → service_of (map string_bytes words.now) ≡ None
+        → files.new ≡ files.old }
 
-    // What follows from `runs` for a status, a command or a file alone.
-    ensures shows { Shows (F.holds files.old) (Rose (F.faults files.old) (F.faults files.new))
+    // What follows from `comes` for a status or the words alone.
+    ensures shows { TopShows (F.holds files.old) (Rose (F.faults files.old) (F.faults files.new))
+        (Rose (P.faults porch.old) (P.faults porch.new))
         (Rose (O.faults out.old) (O.faults out.new))
-        (map string_bytes words.now) result (O.taken out.old) (O.taken out.new) steps.old steps.new }
+        (map string_bytes words.now) result (O.taken out.old) (O.taken out.new)
+        (P.told porch.old) (P.told porch.new) steps.old steps.new }
 {
-    match carry_out(alloc, words, files, out, steps) {
-        Ok(status) => status,
-        Err(stop) => end_stopped(alloc, &stop, out),
+    match read_service(words) {
+        Some(service) => serve(rt, alloc, service, files, out, porch),
+        None => run_words(alloc, words, files, out, steps),
     }
 }

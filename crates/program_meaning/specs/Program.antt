@@ -1,6 +1,6 @@
 -- What the program writes, and its status.
-use Rattle.std.specs.Prelude.{◌≡◌, ℕ, ◌+◌, Bool, false, cond, not, ◌&&◌, ◌==◌, List, [], ◌∷◌, ◌++◌, flat_map, take, codes, decimal, Option, Some, None, IfSome}
-use Rattle.std.specs.Str.{bytes_eq}
+use Rattle.std.specs.Prelude.{◌≡◌, ℕ, ◌+◌, List, [], ◌∷◌, ◌++◌, flat_map, take, codes, decimal, Option, Some, None, IfSome}
+use Rattle.command_meaning.specs.Commands.{Command, Once, Play, command_of, notebook_of}
 use Rattle.py_tree.specs.Names.{Name}
 use Rattle.py_tree.specs.Trees.{Cell}
 use Rattle.graph_meaning.specs.Graph.{IsDoubled, NoneDoubled, NoneCyclic, IsCyclic}
@@ -46,30 +46,6 @@ usual_budget = 200000
 -- what is written for `once` where the cells are accepted: the frames of the opening of one visitor, one a line
 abbrev pub once_text : List Cell → List ℕ
 once_text nb = frame_lines (solo nb usual_budget (Open ∷ []))
-
--- the command that the words ask for: to open a notebook, or to play a script of a visitor of one
-pub data Command : Type 0 where
-  Once : (file : List ℕ) → Command
-  Play : (file script : List ℕ) → Command
-
--- the file of the notebook
-abbrev pub notebook_of : Command → List ℕ
-notebook_of (Once file) = file
-notebook_of (Play file script) = file
-
--- a word that isn't empty and doesn't begin with `-`
-abbrev pub is_positional : List ℕ → Bool
-is_positional [] = false
-is_positional (c ∷ cs) = not (c == 45)
-
--- The command of words of the form `once FILE` or `script FILE SCRIPT`, and none for other words. The program's own name is no word.
-abbrev pub command_of : List (List ℕ) → Option Command
-command_of [] = None
-command_of (word ∷ []) = None
-command_of (word ∷ file ∷ []) = cond (bytes_eq word (codes "once") && is_positional file) (Some (Once file)) None
-command_of (word ∷ file ∷ script ∷ []) =
-    cond (bytes_eq word (codes "script") && is_positional file && is_positional script) (Some (Play file script)) None
-command_of (word ∷ file ∷ script ∷ more ∷ words) = None
 
 -- what is read of a file: its bytes, or one byte more than the limit
 abbrev pub read_of : List ℕ → List ℕ

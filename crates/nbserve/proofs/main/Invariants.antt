@@ -1,5 +1,5 @@
 -- the ledger of the program's steps
 use Rattle.nbserve.proofs.main.Given as goal
 
-abbrev pub ghosts-run_really : goal.ghosts-run_really
-ghosts-run_really a = record { name = a.blank.name; parts = a.blank.parts }
+abbrev pub ghosts-run_counted : goal.ghosts-run_counted
+ghosts-run_counted a = record { name = a.blank.name; parts = a.blank.parts }

@@ -3,7 +3,7 @@ use Rattle.std.proofs.Common.{List, ℕ, Bor, map, subst, sym}
 use Rattle.visit_meaning.specs.Messages.{AreMessages}
 use Rattle.program_meaning.specs.Program.{AreRead}
 use Rattle.program_meaning.specs.Scripts.{messages_of}
-use Rattle.nbserve.proofs.top.perform_script.Goals as goal
+use Rattle.nbserve.proofs.commands.perform_script.Goals as goal
 
 pub returns-clause-played : goal.returns-clause-played
 returns-clause-played g c =

@@ -4,7 +4,7 @@ use Rattle.py_tree.specs.View.{view_cells}
 use Rattle.nbserve.proofs.Execution.{done_after}
 use Rattle.script_run.specs.Cut as cut
 use Rattle.nbserve.specs.Execution as done
-use Rattle.nbserve.proofs.top.perform.Goals as goal
+use Rattle.nbserve.proofs.commands.perform.Goals as goal
 
 pub returns-in-Ok-clause-done : goal.returns-in-Ok-clause-done
 returns-in-Ok-clause-done g c = λ ms are.

@@ -4,18 +4,19 @@ use Rattle.std.specs.Prelude.{Some, string_bytes}
 use Rattle.std.proofs.lemmas.Result.{IfErr-weaker, IfOk-weaker}
 use Rattle.link_io.specs.Outside.{Rose}
 use Rattle.visit_meaning.specs.Answer.{Open}
-use Rattle.program_meaning.specs.Program.{notebook_of, IsLoaded}
+use Rattle.command_meaning.specs.Commands.{notebook_of}
+use Rattle.program_meaning.specs.Program.{IsLoaded}
 use Rattle.thin_runs.proofs.ThinRuns.{thin_runnable}
 use Rattle.py_tree.specs.Trees.{Cell}
 use Rattle.py_tree.specs.View.{view_cells}
 use Rattle.nbserve.proofs.Execution.{same_played, unloaded_stops, unplayed_stops}
 use Rattle.kernel.proofs.Results.{if_err_of}
-use Rattle.nbserve.specs.Command.{asked}
+use Rattle.cli_words.specs.Command.{asked}
 use Rattle.nbserve.specs.Execution as carried
 use Rattle.nbserve.specs.Execution.{Carried, IsPlayed}
 use Rattle.nbserve.specs.CommandFault.{IsStopped, IsUnloaded, IsUnplayed}
 use Rattle.nbserve.specs.declared.command_fault.CommandFault.{CommandFault}
-use Rattle.nbserve.proofs.top.carry_out.Goals as goal
+use Rattle.nbserve.proofs.commands.carry_out.Goals as goal
 
 pub returns-in_err-notebook-clause-stopped : goal.returns-in_err-notebook-clause-stopped
 returns-in_err-notebook-clause-stopped g c =

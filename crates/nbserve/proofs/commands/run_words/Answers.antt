@@ -7,7 +7,7 @@ use Rattle.nbserve.specs.Output as output
 use Rattle.nbserve.specs.Output.{RunsTo}
 use Rattle.nbserve.specs.declared.command_fault.CommandFault.TheVariants as stop
 use Rattle.nbserve.proofs.Output.{runs_show, stopped_runs}
-use Rattle.nbserve.proofs.top.run_words.Goals as goal
+use Rattle.nbserve.proofs.commands.run_words.Goals as goal
 
 pub returns-in-Ok : goal.returns-in-Ok
 returns-in-Ok g c =

@@ -1,7 +1,9 @@
-// The words of the command line.
+// The words of commands that wait for nobody.
 ghost use Rattle.std.specs.Prelude.{◌≡◌, map, option_map, string_bytes};
-ghost use Rattle.nbserve.specs.Command.{asked};
-ghost use Rattle.program_meaning.specs.Program.{command_of, is_positional, notebook_of};
+ghost use Rattle.cli_words.specs.Command.{asked};
+ghost use Rattle.command_meaning.specs.Commands.{command_of, notebook_of};
+
+use crate::positional::names_something;
 
 /// What the program is to do.
 #[derive(Clone, Copy)]
@@ -23,17 +25,7 @@ impl<'a> Command<'a> {
     }
 }
 
-// Whether the word names something: it isn't empty and doesn't begin with `-`.
-fn names_something(word: &str) -> bool
-    ensures { result ≡ is_positional word.now }
-{
-    match word.as_bytes() {
-        [] => false,
-        [first, ..] => *first != b'-',
-    }
-}
-
-/// The command that the words ask for, which don't include the program's own name; none where they are no form.
+/// The command that the words ask for, `once FILE` or `script FILE SCRIPT`; none where they ask for none. The program's own name is no word.
 pub fn read_command(words: &[String]) -> Option<Command<'_>>
     ensures { option_map asked result ≡ command_of (map string_bytes words.now) }
 {

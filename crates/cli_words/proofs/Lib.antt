@@ -1,0 +1,2 @@
+-- For the words of a service.
+pub mod OptionWords
