@@ -1,6 +1,5 @@
 """What bench/serve.sh measures: `serving.py PROGRAM RUNS SECONDS`. Each visitor is a process of its own, the same for both servers."""
-import multiprocessing, os, pathlib, statistics, sys, time
-from array import array
+import array, multiprocessing, os, pathlib, statistics, sys, time
 
 from trips import Trips
 from visitor import SLIDERS, Server, free_port
@@ -11,7 +10,7 @@ VISITORS, WARM = (1, 4, 16), 300
 
 def visit(port, length, barrier, pipe):
     """Sets one value after the other for so long, and gives the nanoseconds of each answer and of all."""
-    trips, times, clock = Trips(port), array("Q"), time.perf_counter_ns
+    trips, times, clock = Trips(port), array.array("Q"), time.perf_counter_ns
     trips.sets(WARM)
     barrier.wait()
     start = now = clock()
@@ -20,7 +19,7 @@ def visit(port, length, barrier, pipe):
         before, now = now, clock()
         times.append(now - before)
     pipe.send((times, now - start))
-    trips.end()
+    trips.left().end()
 
 
 def load(port, count, length):

@@ -5,10 +5,10 @@ A visitor comes again after a tenth of the sets that are the visitor's. It print
 and at the end, and the report. Then one visitor sends messages until the server has answered 1,000,000 and parts. The status is 1 where an
 answer, a report or a status isn't the one that was worked out here.
 """
-import multiprocessing, struct, sys, time
+import multiprocessing, sys, time
 
 from trips import Trips
-from visitor import CLOSE, TEXT, frame, same, serving, setting
+from visitor import CLOSE, same, serving
 
 VISITORS, TIMES, CHUNK, MOST = 4, 10, 1000, 1_000_000
 REPORT = "visitors {} closed {} links 0 memory 0 many {} doors 0\n"
@@ -20,7 +20,7 @@ def visit(port, sets, done, place):
         for _ in range(sets // TIMES // CHUNK):
             trips.sets(CHUNK)
             done[place] += CHUNK
-        trips.end()
+        trips.left().end()
 
 
 def many_visitors(program, sets):
@@ -50,9 +50,9 @@ def one_visitor(program):
     with serving(program, "--workers=1", "--visitors=1") as server:
         trips = Trips(server.port)
         trips.sets(MOST - 1)
-        trips.came.socket.settimeout(10)
-        same((CLOSE, b""), trips.came.heard())
-        trips.came.ended()
+        came = trips.left()
+        same((CLOSE, b""), came.heard())
+        came.ended()
         same((REPORT.format(1, 0, 1).encode(), b"", 0), server.report())
     print("a visitor is parted from after 1,000,000 messages")
 

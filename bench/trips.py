@@ -1,9 +1,9 @@
 """A light visitor of examples/sliders.py: one send and one read for each answer, over cases/visitor.py."""
-import pathlib, socket, sys
+import pathlib, select, socket, sys
 
 sys.dont_write_bytecode = True
 sys.path.insert(0, str(pathlib.Path(__file__).resolve().parent.parent / "cases"))
-from visitor import TEXT, Sliders, frame, head, opening, same, setting, visitor
+from visitor import SECONDS, TEXT, Sliders, frame, head, opening, same, setting, visitor
 
 
 def framed(texts):
@@ -21,22 +21,26 @@ class Trips:
         self.size = len(self.pairs[0][1])
         same([self.size] * len(self.pairs), [len(wanted) for _, wanted in self.pairs])
         # The system wakes the visitor once for each answer, when all of it is there.
-        self.came.socket.settimeout(None)
         self.came.socket.setsockopt(socket.SOL_SOCKET, socket.SO_RCVLOWAT, self.size)
-        self.buffer, self.place = bytearray(self.size), 0
+        self.came.socket.setblocking(False)
+        self.poll, self.buffer, self.place = select.poll(), bytearray(self.size), 0
+        self.poll.register(self.came.socket, select.POLLIN)
 
     def sets(self, count):
         """Sets so many values one after the other, and looks at each answer."""
-        send, receive, buffer, size = self.came.socket.send, self.came.socket.recv_into, self.buffer, self.size
+        send, poll, receive = self.came.socket.send, self.poll.poll, self.came.socket.recv_into
+        buffer, size = self.buffer, self.size
         for _ in range(count):
             asked, wanted = self.pairs[self.place % len(self.pairs)]
             self.place += 1
             send(asked)
-            got = receive(buffer, size, socket.MSG_WAITALL)
+            poll(SECONDS * 1000)
+            got = receive(buffer)
             if got != size or buffer != wanted:
                 raise AssertionError(f"wanted {wanted!r}, and got {bytes(buffer[:got])!r}")
 
-    def end(self):
+    def left(self):
+        """The visitor behind the last answer, who reads as any other."""
         self.came.socket.setsockopt(socket.SOL_SOCKET, socket.SO_RCVLOWAT, 1)
-        self.came.socket.settimeout(10)
-        self.came.end()
+        self.came.socket.settimeout(SECONDS)
+        return self.came
