@@ -67,7 +67,8 @@ def measured(server, count):
 
 
 rates = {}
-print(f"{'server':10} {'visitors':>8} {'median us':>10} {'p99 us':>10} {'answers/s':>10} {'processor us':>12} {'KiB start':>10} {'KiB end':>10}")
+heads = "median us", "p99 us", "answers/s", "processor us", "KiB start", "KiB end"
+print(f"{'server':10} {'visitors':>8}", *(f"{it:>12}" for it in heads))
 for count in VISITORS:
     servers = {name: started(name, count) for name in ("nbserve", "python")}
     try:
@@ -79,8 +80,8 @@ for count in VISITORS:
         for name, server in servers.items():
             median, late, rate, used = map(statistics.median, zip(*rows[name]))
             rates[name, count] = median, rate
-            ends = f"{starts[name]:10d} {server.memory():10d}"
-            print(f"{name:10} {count:8d} {median:10.1f} {late:10.1f} {rate:10.0f} {used:12.1f} {ends}", flush=True)
+            row = f"{name:10} {count:8d} {median:12.1f} {late:12.1f} {rate:12.0f} {used:12.1f}"
+            print(f"{row} {starts[name]:12d} {server.memory():12d}", flush=True)
     finally:
         for server in servers.values():
             server.stop()
