@@ -8,4 +8,4 @@ pub mod Output
 -- For `serve`, and what its status tells.
 pub mod Service
 -- For `run_top`.
-pub mod Top
+pub mod Statuses

@@ -1,7 +1,9 @@
 -- Services, step by step, and what their status tells.
 use Rattle.std.proofs.Common.{◌≡◌, refl, sym, ap, subst, inl, inr, ◌⊎◌, ⊎_elim, ◌∙◌, ℕ, ◌+◌, ◌-◌, ◌^◌, ◌<◌, ◌≤◌, min, zero, suc, cond, nat_lt, true, false, Bool, List, [], ◌∷◌, ◌++◌, length, map, codes, arith}
 use Rattle.std.specs.Prelude.{All, Option, Some, None, IfSome, sum_by}
-use Rattle.std.proofs.lemmas.Bool.{lt-ltb, ltb-true}
+use Rattle.std.proofs.lemmas.Bool.{lt-ltb}
+use Rattle.std.proofs.lemmas.List.Elements.{All-head, All-tail}
+use Rattle.std.proofs.lemmas.List.Sums.{sum_by-cons}
 use Rattle.link_io.specs.Outside.{Rose, Took}
 use Rattle.link_io.specs.Porches.{Gives, Seen, Stays, Stock, TakesBack}
 use Rattle.command_meaning.specs.Services.{Service}
@@ -33,10 +35,12 @@ none_counted : (alone : Alone) (quota : ℕ) (gone : List Gone) → AreShares al
     → sum_by (λ (r : Report). r.doors) (map (λ (g : Gone). g.report) gone) ≡ 0
 none_counted alone quota [] shares sound = refl
 none_counted alone quota (g ∷ gone) shares sound =
+    let sound_first = All-head (λ (d : Seen). d.faults ≡ 0) g.after (map (λ (h : Gone). h.after) gone) sound in
+    let sound_rest = All-tail (λ (d : Seen). d.faults ≡ 0) g.after (map (λ (h : Gone). h.after) gone) sound in
     let first : g.report.doors ≡ 0 = not_positive g.report.doors
-        (λ p. let rose : min (g.before.faults + 1) (2 ^ 64 - 1) ≤ g.after.faults = shares.0.doors p in omega (arith, rose, sound.0)) in
-    let rest = none_counted alone quota gone shares.1 sound.1 in
-    omega (arith, first, rest)
+        (λ p. let rose : min (g.before.faults + 1) (2 ^ 64 - 1) ≤ g.after.faults = shares.0.doors p in omega (arith, rose, sound_first)) in
+    let rest = none_counted alone quota gone shares.1 sound_rest in
+    sum_by-cons (λ (r : Report). r.doors) g.report (map (λ (h : Gone). h.report) gone) ∙ omega (arith, first, rest)
 
 no_faults : (alone : Alone) (quota : ℕ) (before after : List Seen) (r : Report) → AreServed alone quota before after r ⊎ AreLeft before after r
     → All (λ (d : Seen). d.faults ≡ 0) after → r.doors ≡ 0
@@ -49,7 +53,7 @@ pub counted_failed : (nb : List Cell) (service : Service) (before now : Option S
     → report_status r ≡ 7 → failed
 counted_failed nb service before now failed r s seven =
     s.fault (λ sound. let none = no_faults _ service.visitors s.doors s.returned r s.report sound in
-    let zero : report_status r ≡ 0 = ap (λ n. cond (nat_lt 0 n) 7 0) none in omega (arith, zero, seven))
+    let done : report_status r ≡ 0 = ap (λ n. cond (nat_lt 0 n) 7 0) none in omega (arith, done, seven))
 
 -- ---- the doors of a porch
 
@@ -83,27 +87,20 @@ stays_same (Some s) = refl
 
 -- ---- what a status tells
 
--- the text was written, less of it where a write failed, or nothing where memory was wanting
-pub ended_status : {come status : ℕ} {text : List ℕ} {before now : Option (List ℕ)} {unwritten : Type 0} → Ended come text status before now unwritten
-    → (status ≡ come) ⊎ ((status ≡ 4) × unwritten) ⊎ (status ≡ 5)
-ended_status (ended.whole is took) = inl is
-ended_status (ended.cut is why less) = inr (inl (is, why))
-ended_status (ended.wanting is none) = inr (inr is)
-
 ended_whole : {come status : ℕ} {text : List ℕ} {before now : Option (List ℕ)} {unwritten : Type 0} → Ended come text status before now unwritten
     → status ≡ 0 → (come ≡ 0) × Took before now text
-ended_whole (ended.whole is took) zero = (sym is ∙ zero, took)
-ended_whole (ended.cut is why less) zero = absurd (omega (arith, is, zero))
-ended_whole (ended.wanting is none) zero = absurd (omega (arith, is, zero))
+ended_whole (ended.whole is took) done = (sym is ∙ done, took)
+ended_whole (ended.cut is why less) done = absurd (omega (arith, is, done))
+ended_whole (ended.wanting is none) done = absurd (omega (arith, is, done))
 
 report_statuses : (r : Report) → (report_status r ≡ 0) ⊎ (report_status r ≡ 7)
 report_statuses r = helper (nat_lt 0 r.doors) where
-  helper : (b : Bool) → (cond b 7 0 ≡ 0) ⊎ (cond b 7 0 ≡ 7)
+  helper : (b : Bool) → (◌≡◌ {A = ℕ} (cond b 7 0) 0) ⊎ (◌≡◌ {A = ℕ} (cond b 7 0) 7)
   helper true = inr refl
   helper false = inl refl
 
 no_door_counted : (r : Report) → report_status r ≡ 0 → r.doors ≡ 0
-no_door_counted r zero = not_positive r.doors (λ p. let seven : report_status r ≡ 7 = ap (λ b. cond b 7 0) (lt-ltb 0 r.doors p) in omega (arith, zero, seven))
+no_door_counted r done = not_positive r.doors (λ p. let seven : report_status r ≡ 7 = ap (λ b. cond b 7 0) (lt-ltb 0 r.doors p) in omega (arith, done, seven))
 
 module _ (holds : List ℕ → Option (Option (List ℕ))) (unread failed unwritten : Type 0) (service : Service) (status : ℕ) (before now : Option (List ℕ)) (stock stock_now : Option Stock) where
   abbrev Serves : Type 0
@@ -125,7 +122,7 @@ module _ (holds : List ℕ → Option (Option (List ℕ))) (unread failed unwrit
 
   pub cause_of : Serves → Cause
   cause_of (serves.served nb r loaded is ends) = ending
-      (λ same. ⊎_elim (λ zero. done (same ∙ zero) nb loaded)
+      (λ same. ⊎_elim (λ none. done (same ∙ none) nb loaded)
       (λ seven. door (same ∙ seven) (counted_failed nb service stock stock_now failed r is seven) nb loaded) (report_statuses r)) ends
   cause_of (serves.no_doors nb loaded why stays ends) = ending (λ seven. door seven why nb loaded) ends
   cause_of (serves.missed come text (serves.refused bytes why read fails one t) ends same) = ending (λ is. refused (is ∙ one) bytes why read fails) ends
@@ -190,11 +187,11 @@ module _ (holds : List ℕ → Option (Option (List ℕ))) (unread failed unwrit
           subst (λ cells. IsServed cells service stock stock_now failed r) same is
 
       pub serves_report : Serves → status ≡ 0 → (r : Report) × IsServed nb service stock stock_now failed r × (r.doors ≡ 0) × Took before now (report_line r)
-      serves_report (serves.served other r loaded is ends) zero =
-          let whole = ended_whole ends zero in (r, same_served other r loaded is, no_door_counted r whole.0, whole.1)
-      serves_report (serves.no_doors other loaded why stays ends) zero = let whole = ended_whole ends zero in absurd (omega (arith, whole.0))
-      serves_report (serves.missed come text (serves.refused bytes why read fails one t) ends same) zero =
-          let whole = ended_whole ends zero in absurd (omega (arith, one, whole.0))
-      serves_report (serves.missed come text (serves.unread why three t) ends same) zero =
-          let whole = ended_whole ends zero in absurd (omega (arith, three, whole.0))
-      serves_report (serves.wanting five none stays) zero = absurd (omega (arith, five, zero))
+      serves_report (serves.served other r loaded is ends) at_end =
+          let whole = ended_whole ends at_end in (r, same_served other r loaded is, no_door_counted r whole.0, whole.1)
+      serves_report (serves.no_doors other loaded why stays ends) at_end = let whole = ended_whole ends at_end in absurd (omega (arith, whole.0))
+      serves_report (serves.missed come text (serves.refused bytes why read fails one t) ends same) at_end =
+          let whole = ended_whole ends at_end in absurd (omega (arith, one, whole.0))
+      serves_report (serves.missed come text (serves.unread why three t) ends same) at_end =
+          let whole = ended_whole ends at_end in absurd (omega (arith, three, whole.0))
+      serves_report (serves.wanting five none stays) at_end = absurd (omega (arith, five, at_end))

@@ -31,9 +31,9 @@ fn report_line(alloc: Global, report: &Report) -> Result<String, AllocError>
         many,
         doors,
     } = *report;
-    format!(in alloc;
-        "visitors {visitors} closed {closed} links {links} memory {memory} many {many} doors {doors}\n"
-    )
+    let mut line = format!(in alloc; "visitors {visitors} closed {closed} links {links}")?;
+    write!(line, " memory {memory} many {many} doors {doors}\n")?;
+    Ok(line)
 }
 
 // Writes a report, and answers the status.

@@ -12,12 +12,12 @@ use Rattle.nbserve.specs.Service.{ServesTo}
 use Rattle.nbserve.specs.Top as top
 use Rattle.nbserve.specs.Top.{ComesTo, TopShows}
 
+pub other_words : (words : List (List ℕ)) (s : Service) → service_of words ≡ None → service_of words ≡ Some s → ⊥
+other_words words s none some = let no : None ≡ Some s = sym none ∙ some in cc
+
 module _ (holds : List ℕ → Option (Option (List ℕ))) (unread failed unwritten : Type 0) (words : List (List ℕ)) (status : ℕ) (before now : Option (List ℕ)) (stock stock_now : Option Stock) (count count_after : ℕ) where
   abbrev Shown : Type 0
   Shown = TopShows holds unread failed unwritten words status before now stock stock_now count count_after
-
-  other_words : (s : Service) → service_of words ≡ None → service_of words ≡ Some s → ⊥
-  other_words s none some = let no : None ≡ Some s = sym none ∙ some in cc
 
   -- words that ask for no service
   ran_shows : service_of words ≡ None → RunsTo holds unread unwritten words status before now count count_after → Shown
@@ -30,10 +30,10 @@ module _ (holds : List ℕ → Option (Option (List ℕ))) (unread failed unwrit
         door = λ seven. let six = shows.range in absurd (omega (arith, six, seven));
         usage = λ no_command no_service. shows.usage no_command;
         command = λ no_service. shows;
-        refused = λ s all some. absurd (other_words s none some);
-        accepted = λ s all nb some. absurd (other_words s none some);
-        complete = λ s all nb some. absurd (other_words s none some);
-        report = λ s all nb some. absurd (other_words s none some);
+        refused = λ s all some. absurd (other_words words s none some);
+        accepted = λ s all nb some. absurd (other_words words s none some);
+        complete = λ s all nb some. absurd (other_words words s none some);
+        report = λ s all nb some. absurd (other_words words s none some);
       }
 
   -- words that ask for a service
@@ -71,8 +71,8 @@ module _ (holds : List ℕ → Option (Option (List ℕ))) (unread failed unwrit
       read = served_read;
       write = served_write;
       door = served_door;
-      usage = λ no_command none. absurd (other_words service none asked);
-      command = λ none. absurd (other_words service none asked);
+      usage = λ no_command none. absurd (other_words words service none asked);
+      command = λ none. absurd (other_words words service none asked);
       refused = λ s all some told never.
           cause_refused holds unread failed unwritten s status before now stock stock_now all told never (cause_for s some);
       accepted = λ s all nb some told ok.
