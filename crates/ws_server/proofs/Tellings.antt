@@ -11,7 +11,7 @@ use Rattle.session.specs.Talks.{close_text}
 use Rattle.session.specs.declared.ended.Ended.{Ended}
 use Rattle.session.specs.declared.ended.Ended.TheVariants as ended
 use Rattle.ws_server.proofs.Totals.{all_counts, all_fit, all_new, all_visitors, all_whole, some_rose}
-use Rattle.ws_server.specs.Reports.{Counts, closed_in, links_in, many_in, memory_in}
+use Rattle.ws_server.specs.Reports.{closed_in, links_in, many_in, memory_in}
 use Rattle.ws_server.specs.Shares.{AllFit, AreServed, Fits, Gone, Visitor}
 use Rattle.ws_server.specs.Told.{AreTold, AtLeast, IsAnswered, IsClosed, IsFull, SomeRose, newly_parted, waiting_in}
 use Rattle.ws_server.specs.Visitors.{Alone}
@@ -109,22 +109,22 @@ pub closed_told : (alone : Alone) (quota : ℕ) (before after : List Seen) (r : 
     → AtLeast r.closed (IsClosed alone) (newly_parted before after)
 closed_told alone quota before after r s told =
     subst (AtLeast r.closed (IsClosed alone)) (new_told alone quota before after r s told)
-        (counted closed_in (IsClosed alone) alone (closed_so alone) (all_visitors alone quota s.gone s.shares)
-            (all_fit alone quota s.gone s.shares (told_before alone quota before after r s told)) r.closed (all_counts alone quota s.gone s.shares r s.sum).closed)
+    (counted closed_in (IsClosed alone) alone (closed_so alone) (all_visitors alone quota s.gone s.shares)
+    (all_fit alone quota s.gone s.shares (told_before alone quota before after r s told)) r.closed (all_counts alone quota s.gone s.shares r s.sum).closed)
 
 pub links_told : (alone : Alone) (quota : ℕ) (before after : List Seen) (r : Report) → AreServed alone quota before after r → AreTold before
     → AtLeast r.links (λ (p : Parted). 0 < p.faults) (newly_parted before after)
 links_told alone quota before after r s told =
     subst (AtLeast r.links (λ (p : Parted). 0 < p.faults)) (new_told alone quota before after r s told)
-        (counted links_in (λ (p : Parted). 0 < p.faults) alone (links_so alone) (all_visitors alone quota s.gone s.shares)
-            (all_fit alone quota s.gone s.shares (told_before alone quota before after r s told)) r.links (all_counts alone quota s.gone s.shares r s.sum).links)
+    (counted links_in (λ (p : Parted). 0 < p.faults) alone (links_so alone) (all_visitors alone quota s.gone s.shares)
+    (all_fit alone quota s.gone s.shares (told_before alone quota before after r s told)) r.links (all_counts alone quota s.gone s.shares r s.sum).links)
 
 pub many_told : (alone : Alone) (quota : ℕ) (before after : List Seen) (r : Report) → AreServed alone quota before after r → AreTold before
     → AtLeast r.many IsFull (newly_parted before after)
 many_told alone quota before after r s told =
     subst (AtLeast r.many IsFull) (new_told alone quota before after r s told)
-        (counted many_in IsFull alone (many_so alone) (all_visitors alone quota s.gone s.shares)
-            (all_fit alone quota s.gone s.shares (told_before alone quota before after r s told)) r.many (all_counts alone quota s.gone s.shares r s.sum).many)
+    (counted many_in IsFull alone (many_so alone) (all_visitors alone quota s.gone s.shares)
+    (all_fit alone quota s.gone s.shares (told_before alone quota before after r s told)) r.many (all_counts alone quota s.gone s.shares r s.sum).many)
 
 -- ---- the texts
 
@@ -134,30 +134,70 @@ answered alone m p ended.Closed f few =
     let own : items ++ [] ≡ items = append-nil items in
     elim f.ends.4 [
       | inl end ↦ record {
-          told = f.told; is = f.is; heard = items; unheard = []; taken = end.0 ∙ sym own; one = omega arith;
-          close = λ none. All-nil (λ (m : Item). m ≡ Some close_text);
-          texts = f.told.sent; are = f.ends.3; rest = []; sent = append-nil f.told.sent;
-        }
+        told = f.told;
+        is = f.is;
+        heard = items;
+        unheard = [];
+        taken = end.0 ∙ sym own;
+        one = omega arith;
+        close = λ none. All-nil (λ (m : Item). m ≡ Some close_text);
+        texts = f.told.sent;
+        are = f.ends.3;
+        rest = [];
+        sent = append-nil f.told.sent;
+      }
       | inr closed ↦ record {
-          told = f.told; is = f.is; heard = items; unheard = Some close_text ∷ []; taken = closed; one = omega arith;
-          close = λ none. All-cons (λ (m : Item). m ≡ Some close_text) (Some close_text) [] refl (All-nil (λ (m : Item). m ≡ Some close_text));
-          texts = f.told.sent; are = f.ends.3; rest = []; sent = append-nil f.told.sent;
-        }
+        told = f.told;
+        is = f.is;
+        heard = items;
+        unheard = Some close_text ∷ [];
+        taken = closed;
+        one = omega arith;
+        close = λ none. All-cons (λ (m : Item). m ≡ Some close_text) (Some close_text) [] refl (All-nil (λ (m : Item). m ≡ Some close_text));
+        texts = f.told.sent;
+        are = f.ends.3;
+        rest = [];
+        sent = append-nil f.told.sent;
+      }
     ]
 answered alone m p ended.TooMany f few = record {
-  told = f.told; is = f.is; heard = f.told.taken; unheard = []; taken = sym (append-nil f.told.taken); one = omega arith;
+  told = f.told;
+  is = f.is;
+  heard = f.told.taken;
+  unheard = [];
+  taken = sym (append-nil f.told.taken);
+  one = omega arith;
   close = λ none. All-nil (λ (m : Item). m ≡ Some close_text);
-  texts = f.told.sent; are = f.ends.2; rest = []; sent = append-nil f.told.sent;
+  texts = f.told.sent;
+  are = f.ends.2;
+  rest = [];
+  sent = append-nil f.told.sent;
 }
 answered alone m p ended.LinkFault f few = record {
-  told = f.told; is = f.is; heard = f.told.taken; unheard = []; taken = sym (append-nil f.told.taken); one = omega arith;
+  told = f.told;
+  is = f.is;
+  heard = f.told.taken;
+  unheard = [];
+  taken = sym (append-nil f.told.taken);
+  one = omega arith;
   close = λ none. All-nil (λ (m : Item). m ≡ Some close_text);
-  texts = f.ends.2; are = f.ends.3; rest = f.ends.4; sent = f.ends.5;
+  texts = f.ends.2;
+  are = f.ends.3;
+  rest = f.ends.4;
+  sent = f.ends.5;
 }
 answered alone m p ended.Memory f few = record {
-  told = f.told; is = f.is; heard = f.ends.2; unheard = f.ends.3; taken = f.ends.4; one = f.ends.5;
+  told = f.told;
+  is = f.is;
+  heard = f.ends.2;
+  unheard = f.ends.3;
+  taken = f.ends.4;
+  one = f.ends.5;
   close = λ none. absurd (omega (arith, few, none));
-  texts = f.ends.6; are = f.ends.7; rest = f.ends.8; sent = f.ends.9;
+  texts = f.ends.6;
+  are = f.ends.7;
+  rest = f.ends.8;
+  sent = f.ends.9;
 }
 
 all_answered : (alone : Alone) (m : ℕ) (vs : List Visitor) → AllFit alone vs → sum_by memory_in (map (λ (v : Visitor). v.end) vs) ≤ m
@@ -166,14 +206,14 @@ all_answered alone m [] fit few = All-nil (IsAnswered alone m)
 all_answered alone m (v ∷ vs) fit few =
     let sum = sum_by-cons memory_in v.end (map (λ (v : Visitor). v.end) vs) in
     All-cons (IsAnswered alone m) v.parted (map (λ (v : Visitor). v.parted) vs) (answered alone m v.parted v.end fit.0 (omega (arith, sum, few)))
-        (all_answered alone m vs fit.1 (omega (arith, sum, few)))
+    (all_answered alone m vs fit.1 (omega (arith, sum, few)))
 
 pub sent_told : (alone : Alone) (quota : ℕ) (before after : List Seen) (r : Report) → AreServed alone quota before after r → AreTold before
     → All (IsAnswered alone r.memory) (newly_parted before after)
 sent_told alone quota before after r s told =
     subst (All (IsAnswered alone r.memory)) (new_told alone quota before after r s told)
-        (all_answered alone r.memory (all_visitors alone quota s.gone s.shares)
-            (all_fit alone quota s.gone s.shares (told_before alone quota before after r s told)) (all_counts alone quota s.gone s.shares r s.sum).memory)
+    (all_answered alone r.memory (all_visitors alone quota s.gone s.shares)
+    (all_fit alone quota s.gone s.shares (told_before alone quota before after r s told)) (all_counts alone quota s.gone s.shares r s.sum).memory)
 
 -- ---- that all came
 

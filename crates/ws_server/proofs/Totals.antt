@@ -1,11 +1,11 @@
 -- The visitors of all doors.
-use Rattle.std.proofs.Common.{◌≡◌, ◌∙◌, inl, inr, refl, sym, ap, subst, ℕ, ◌+◌, ◌<◌, ◌≤◌, min, List, [], ◌∷◌, ◌++◌, drop, length, length-append, map, suc, zero, arith}
+use Rattle.std.proofs.Common.{◌≡◌, ◌∙◌, inl, inr, refl, sym, ap, subst, ℕ, ◌+◌, ◌<◌, min, List, [], ◌∷◌, ◌++◌, drop, length, length-append, map, suc, zero, arith}
 use Rattle.std.proofs.lemmas.List.{map-append}
-use Rattle.std.proofs.lemmas.List.Elements.{All-head, All-nil, All-tail}
+use Rattle.std.proofs.lemmas.List.Elements.{All-head, All-tail}
 use Rattle.std.proofs.lemmas.List.Prefix.{front_rest}
 use Rattle.std.proofs.lemmas.List.Sums.{sum_by-append, sum_by-cons}
-use Rattle.std.specs.Prelude.{◌⊎◌, All, IfSome, Option, Some, None, sum_by}
-use Rattle.link_io.specs.Doors.{Parted, Row}
+use Rattle.std.specs.Prelude.{◌⊎◌, IfSome, Option, Some, sum_by}
+use Rattle.link_io.specs.Doors.{Row}
 use Rattle.link_io.specs.Porches.{Seen}
 use Rattle.session.specs.declared.ended.Ended.{Ended}
 use Rattle.ws_server.specs.Reports.{Counts, IsSum, closed_in, links_in, many_in, memory_in}
@@ -58,7 +58,7 @@ all_counts alone quota (g ∷ gs) s r sum =
     let others : List Visitor = all_visitors alone quota gs s.1 in
     let rest = all_counts alone quota gs s.1 (total rs) (record { visitors = refl; closed = refl; links = refl; many = refl; memory = refl; doors = refl }) in
     subst (λ es. Counts es r) (sym (map-append (λ (v : Visitor). v.end) vs others))
-        (counts_join (map (λ (v : Visitor). v.end) vs) (map (λ (v : Visitor). v.end) others) g.report rs r s.0.counts rest sum)
+    (counts_join (map (λ (v : Visitor). v.end) vs) (map (λ (v : Visitor). v.end) others) g.report rs r s.0.counts rest sum)
 
 -- ---- where doors tell them
 
@@ -96,7 +96,7 @@ all_fit alone quota (g ∷ gs) s told =
     let P : Seen → Type 0 = λ (s : Seen). (row : Row) × (s.queue ≡ Some row) in
     let here = All-head P g.before (map (λ (g : Gone). g.before) gs) told in
     fit_join alone s.0.visitors (all_visitors alone quota gs s.1) (came_of alone quota g s.0 here.0 here.1).2.fit
-        (all_fit alone quota gs s.1 (All-tail P g.before (map (λ (g : Gone). g.before) gs) told))
+    (all_fit alone quota gs s.1 (All-tail P g.before (map (λ (g : Gone). g.before) gs) told))
 
 -- ---- faults, and that all came
 
