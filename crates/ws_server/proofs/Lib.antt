@@ -4,3 +4,6 @@ pub mod Endings
 pub mod Shares
 -- For `serve_doors`: the sum of the reports.
 pub mod Sums
+-- For the laws: the visitors of all doors, and what a report tells of them.
+pub mod Totals
+pub mod Tellings

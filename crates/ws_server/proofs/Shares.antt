@@ -1,8 +1,8 @@
 -- The visitors of a door, one after the other.
-use Rattle.std.proofs.Common.{◌≡◌, ◌∙◌, refl, sym, ap, subst, ℕ, ◌+◌, ◌-◌, ◌^◌, ◌<◌, ◌≤◌, min, List, [], ◌∷◌, ◌++◌, append_assoc, append-nil, length, length-append, map, suc, zero, arith}
+use Rattle.std.proofs.Common.{◌≡◌, ◌∙◌, inl, inr, refl, sym, ap, subst, ℕ, ◌+◌, ◌-◌, ◌^◌, ◌<◌, ◌≤◌, min, List, [], ◌∷◌, ◌++◌, append_assoc, append-nil, length, length-append, map, suc, zero, arith}
 use Rattle.std.proofs.lemmas.List.{length-map, map-append}
 use Rattle.std.proofs.lemmas.List.Sums.{sum_by-append, sum_by-cons}
-use Rattle.std.specs.Prelude.{IfSome, Option, Some, None, sum_by}
+use Rattle.std.specs.Prelude.{◌⊎◌, IfSome, Option, Some, None, sum_by}
 use Rattle.link_io.specs.Doors.{IsEmpty, Lets, Parts, Rests, Row}
 use Rattle.link_io.specs.Links.{Item, Told, fresh}
 use Rattle.link_io.specs.Outside.{Rose}
@@ -245,3 +245,19 @@ all_came {before = Some b} after quota p empty less =
     let long = came_at_least b row p p.row.2.first in
     let most = p.visitors in
     omega arith
+
+-- where nobody waits any more, all who waited were served
+pub none_waits : {alone : Alone} {before now : Option Row} {r : Report} {turn : ℕ} (after : Option Row) (quota : ℕ) (accepts : ℕ) → IsPart alone before now r turn
+    → IsEmpty now after → IfSome before (λ b. (r.visitors ≡ length b.waiting) ⊎ (quota ≤ accepts))
+none_waits {before = None} after quota accepts p empty = tt
+none_waits {before = Some b} after quota accepts p empty =
+    let row : Row = p.row.0 in
+    let e = subst (λ z. IsEmpty z after) p.row.1 empty in
+    let none : length row.waiting ≡ 0 = ap (λ xs. length xs) e.0 in
+    let long = came_at_least b row p p.row.2.first in
+    inl (omega arith)
+
+-- where the accepts were used up
+pub used_up : (P : Row → Type 0) (before : Option Row) (quota accepts : ℕ) → quota ≤ accepts → IfSome before (λ b. P b ⊎ (quota ≤ accepts))
+used_up P None quota accepts most = tt
+used_up P (Some b) quota accepts most = inr most

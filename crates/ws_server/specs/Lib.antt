@@ -1,3 +1,4 @@
 pub mod Reports
 pub mod Shares
+pub mod Told
 pub mod Visitors

@@ -1,5 +1,5 @@
 -- What a report tells of the visitors of doors.
-use Rattle.std.specs.Prelude.{◌≡◌, ℕ, ◌<◌, ◌≤◌, min, List, [], ◌∷◌, ◌++◌, length, map, Option, Some, None, IfSome}
+use Rattle.std.specs.Prelude.{◌≡◌, ◌⊎◌, ℕ, ◌+◌, ◌<◌, ◌≤◌, min, List, [], ◌∷◌, ◌++◌, length, map, Option, Some, None, IfSome}
 use Rattle.link_io.specs.Doors.{Parted, Row}
 use Rattle.link_io.specs.Links.{Item, Told}
 use Rattle.link_io.specs.Outside.{Rose}
@@ -46,7 +46,8 @@ IsServedRow alone before now vs = IfSome before (λ b. (row : Row) × (now ≡ S
 
 -- The share of a door in a report, whose worker accepted at most so often: the visitors who were served, each counted by the end of the session.
 -- Faults are counted only where the door's count rose; where it didn't and memory wasn't wanting, as many visitors were served as came, up
--- to the quota.
+-- to the quota. A fault of the door or want of memory costs one accept and ends nothing: where the door tells its visitors, all who waited
+-- were served or the accepts were used up.
 pub record IsShare (alone : Alone) (quota : ℕ) (before after : Seen) (r : Report) : Type 0 where
   pub visitors : List Visitor
   pub counts : Counts (map (λ (v : Visitor). v.end) visitors) r
@@ -54,6 +55,8 @@ pub record IsShare (alone : Alone) (quota : ℕ) (before after : Seen) (r : Repo
   pub doors : 0 < r.doors → Rose before.faults after.faults
   pub whole : (Rose before.faults after.faults → ⊥) → r.memory ≡ 0 → IfSome before.queue (λ b. r.visitors ≡ min quota (length b.waiting))
   pub later : before.faults ≤ after.faults
+  pub few : r.visitors + r.doors ≤ quota
+  pub turns : IfSome before.queue (λ b. (r.visitors ≡ length b.waiting) ⊎ (quota ≤ r.visitors + r.doors + r.memory))
 
 -- what became of a door, and its worker's report
 pub record Gone : Type 0 where

@@ -1,6 +1,7 @@
 //! Workers that serve the visitors of doors side by side.
 #![tactic(auto)]
 
+pub mod laws;
 mod report;
 mod worker;
 mod workers;

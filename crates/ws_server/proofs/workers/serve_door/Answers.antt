@@ -3,7 +3,7 @@ use Rattle.std.proofs.Common.{◌≡◌, refl, sym, subst, ◌+◌, ◌<◌, ◌
 use Rattle.link_io.proofs.Taken.{rose_since}
 use Rattle.link_io.specs.Outside.{Rose}
 use Rattle.py_tree.specs.View.{view_cells}
-use Rattle.ws_server.proofs.Shares.{IsPart, all_came, all_turns, empty_rests, no_doors, part_bounded, part_ends, part_more, part_none, part_rests, part_small, rose_later, rose_some}
+use Rattle.ws_server.proofs.Shares.{IsPart, all_came, all_turns, empty_rests, no_doors, none_waits, part_bounded, part_ends, part_more, part_none, part_rests, part_small, rose_later, rose_some, used_up}
 use Rattle.ws_server.specs.Visitors.{alone_in}
 use Rattle.ws_server.proofs.workers.serve_door.Goals as goal
 use Rattle.ws_server.proofs.workers.serve_door.Goals.{in-Visitor, in-Failed, in-Memory}
@@ -14,7 +14,8 @@ part-requires g c = (c.accept.ensures.visitor c.in-Visitor.link c.in-Visitor.is)
 pub loop-turn-init : goal.loop-turn-init
 loop-turn-init g c =
     let none = c.requires.new.doors in
-    (c.requires.out, part_none _ _ _ c.requires.new, omega arith, omega (arith, none), λ some. absurd (omega (arith, none, some)), omega arith)
+    let unvisited = c.requires.new.visitors in
+    (c.requires.out, part_none _ _ _ c.requires.new, omega arith, omega (arith, none, unvisited), λ some. absurd (omega (arith, none, some)), omega arith)
 
 pub count-requires : goal.count-requires
 count-requires g c = part_small c.loop-turn.invariant.1 (omega (arith, c.loop-turn-test.true, c.ranges.quota.fits))
@@ -32,18 +33,18 @@ loop-turn-preserved g c =
           let o = w.count.ensures in
           let later = c.accept.ensures.later in
           let same = w.part.ensures.same in
-          subst (λ u. (g.D.Door.out u.door ≡ false) × IsPart alone q (g.D.Door.queue u.door) u.report (c.loop-turn.turn + 1) × (n ≤ g.D.Door.faults u.door) × (u.report.doors ≤ c.loop-turn.turn + 1) × (0 < u.report.doors → Rose n (g.D.Door.faults u.door)) × (c.loop-turn.turn + 1 ≤ u.report.visitors + u.report.doors + u.report.memory)) (sym w.worker-is) (
+          subst (λ u. (g.D.Door.out u.door ≡ false) × IsPart alone q (g.D.Door.queue u.door) u.report (c.loop-turn.turn + 1) × (n ≤ g.D.Door.faults u.door) × (u.report.visitors + u.report.doors ≤ c.loop-turn.turn + 1) × (0 < u.report.doors → Rose n (g.D.Door.faults u.door)) × (c.loop-turn.turn + 1 ≤ u.report.visitors + u.report.doors + u.report.memory)) (sym w.worker-is) (
             w.part.ensures.out,
             part_more _ _ _ _ _ _ _ part came.2 w.serve_one-ended.ensures.ends (λ is. rose_some _ _ came.1 (w.serve_one-ended.ensures.failed is)) w.part.ensures.parted o,
             omega (arith, at.2, later, same),
-            omega (arith, o.doors, at.3),
+            omega (arith, o.doors, o.visitors, at.3),
             λ some. rose_later n (g.D.Door.faults c.loop-turn.worker.door) _ (at.4 (omega (arith, o.doors, some))) (omega (arith, later, same)),
             omega (arith, at.5, o.visitors, o.doors, o.memory),
           )
       | in-Failed w ↦
           let failed = c.accept.ensures.failed w.in-Failed.is in
           let later = c.accept.ensures.later in
-          subst (λ u. (g.D.Door.out u.door ≡ false) × IsPart alone q (g.D.Door.queue u.door) u.report (c.loop-turn.turn + 1) × (n ≤ g.D.Door.faults u.door) × (u.report.doors ≤ c.loop-turn.turn + 1) × (0 < u.report.doors → Rose n (g.D.Door.faults u.door)) × (c.loop-turn.turn + 1 ≤ u.report.visitors + u.report.doors + u.report.memory)) (sym w.worker-is) (
+          subst (λ u. (g.D.Door.out u.door ≡ false) × IsPart alone q (g.D.Door.queue u.door) u.report (c.loop-turn.turn + 1) × (n ≤ g.D.Door.faults u.door) × (u.report.visitors + u.report.doors ≤ c.loop-turn.turn + 1) × (0 < u.report.doors → Rose n (g.D.Door.faults u.door)) × (c.loop-turn.turn + 1 ≤ u.report.visitors + u.report.doors + u.report.memory)) (sym w.worker-is) (
             failed.0,
             part_rests _ _ part failed.2 (record { visitors = refl; closed = refl; links = refl; many = refl; memory = omega arith; more = omega arith }),
             omega (arith, at.2, later),
@@ -58,7 +59,7 @@ loop-turn-preserved g c =
           let bound = part.memory in
           let few = c.loop-turn-test.true in
           let fits = c.ranges.quota.fits in
-          subst (λ u. (g.D.Door.out u.door ≡ false) × IsPart alone q (g.D.Door.queue u.door) u.report (c.loop-turn.turn + 1) × (n ≤ g.D.Door.faults u.door) × (u.report.doors ≤ c.loop-turn.turn + 1) × (0 < u.report.doors → Rose n (g.D.Door.faults u.door)) × (c.loop-turn.turn + 1 ≤ u.report.visitors + u.report.doors + u.report.memory)) (sym w.worker-is) (
+          subst (λ u. (g.D.Door.out u.door ≡ false) × IsPart alone q (g.D.Door.queue u.door) u.report (c.loop-turn.turn + 1) × (n ≤ g.D.Door.faults u.door) × (u.report.visitors + u.report.doors ≤ c.loop-turn.turn + 1) × (0 < u.report.doors → Rose n (g.D.Door.faults u.door)) × (c.loop-turn.turn + 1 ≤ u.report.visitors + u.report.doors + u.report.memory)) (sym w.worker-is) (
             wanting.0,
             part_rests _ _ part wanting.1 (record { visitors = refl; closed = refl; links = refl; many = refl; memory = omega arith; more = omega arith }),
             omega (arith, at.2, later),
@@ -70,11 +71,11 @@ loop-turn-preserved g c =
 
 pub returns-in-NoMore-clause-bounded : goal.returns-in-NoMore-clause-bounded
 returns-in-NoMore-clause-bounded g c =
-    let at = c.loop-turn.invariant in part_bounded at.1 (omega (arith, c.loop-turn-test.true, c.ranges.quota.fits)) at.3
+    let at = c.loop-turn.invariant in part_bounded at.1 (omega (arith, c.loop-turn-test.true, c.ranges.quota.fits)) (omega (arith, at.3))
 
 pub returns-clause-bounded : goal.returns-clause-bounded
 returns-clause-bounded g c =
-    let at = c.loop-turn.invariant in part_bounded at.1 (omega (arith, c.loop-turn.auto.turn-end, c.ranges.quota.fits)) at.3
+    let at = c.loop-turn.invariant in part_bounded at.1 (omega (arith, c.loop-turn.auto.turn-end, c.ranges.quota.fits)) (omega (arith, at.3))
 
 pub returns-in-NoMore-clause-share : goal.returns-in-NoMore-clause-share
 returns-in-NoMore-clause-share g c =
@@ -88,6 +89,8 @@ returns-in-NoMore-clause-share g c =
       doors = λ some. rose_later _ _ _ (at.4 some) c.accept.ensures.later;
       whole = λ quiet none. all_came _ c.args.quota at.1 empty (omega (arith, c.loop-turn-test.true));
       later = omega (arith, at.2, c.accept.ensures.later);
+      few = omega (arith, at.3, c.loop-turn-test.true);
+      turns = none_waits _ c.args.quota _ at.1 empty;
     }
 
 pub returns-clause-share : goal.returns-clause-share
@@ -104,4 +107,6 @@ returns-clause-share g c =
           let over = c.loop-turn-test.false in
           all_turns c.args.quota at.1 (omega arith) (omega (arith, at.5, none, zero));
       later = at.2;
+      few = omega (arith, at.3, end);
+      turns = used_up _ _ c.args.quota _ (let over = c.loop-turn-test.false in omega (arith, at.5));
     }

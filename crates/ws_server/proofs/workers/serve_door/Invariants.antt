@@ -11,6 +11,6 @@ invariant-loop-turn g l =
     (g.D.Door.out l.worker.door ≡ false)
     × IsPart (alone_in (view_cells l.notebook) l.budget) (g.D.Door.queue l.fn.worker.door) (g.D.Door.queue l.worker.door) l.worker.report l.turn
     × (g.D.Door.faults l.fn.worker.door ≤ g.D.Door.faults l.worker.door)
-    × (l.worker.report.doors ≤ l.turn)
+    × (l.worker.report.visitors + l.worker.report.doors ≤ l.turn)
     × (0 < l.worker.report.doors → Rose (g.D.Door.faults l.fn.worker.door) (g.D.Door.faults l.worker.door))
     × (l.turn ≤ l.worker.report.visitors + l.worker.report.doors + l.worker.report.memory)
