@@ -202,7 +202,7 @@ pub data Answer (bytes : List ℕ) : Type 0 where
   good : (lines : List Line) → Spelled bytes lines → Answer bytes
   bad : (line : ℕ) → Refused bytes line → Answer bytes
 
-closed_list : {A : Type 0} (xs : List A) → is_empty xs ≡ true → xs ≡ []
+pub closed_list : {A : Type 0} (xs : List A) → is_empty xs ≡ true → xs ≡ []
 closed_list [] h = refl
 closed_list (x ∷ xs) h = let none : false ≡ true = h in absurd cc
 

@@ -16,5 +16,5 @@ pub mod FTextLaws
 pub mod NextLaws
 -- For `one_answer`.
 pub mod CutLaws
--- For `worked_files`.
+-- For `worked_tokens` and `worked_files`.
 pub mod WorkedRows

@@ -1,3 +1,4 @@
+pub mod Answer
 pub mod Brackets
 pub mod Bytes
 pub mod Cuts
@@ -23,3 +24,7 @@ pub mod Texts
 pub mod TokenReader
 pub mod Tokens
 pub mod Worked
+pub mod WorkedEscapes
+pub mod WorkedFiles
+pub mod WorkedNotebook
+pub mod WorkedTokens
