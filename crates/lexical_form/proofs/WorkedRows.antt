@@ -1,19 +1,19 @@
 -- Worked examples are computed by the readers.
-use Rattle.std.proofs.Common.{◌≡◌, ℕ, Bool, true, false, cond, List, [], ◌∷◌, Option, Some, None, refl, sym, ap, subst, ◌∙◌}
+use Rattle.std.proofs.Common.{◌≡◌, ℕ, Bool, true, false, List, [], ◌∷◌, Option, Some, None, refl, sym, ap, subst, ◌∙◌}
 use Rattle.std.specs.Prelude.{map}
 use Rattle.std.specs.List.{list_all}
 use Rattle.std.specs.Str.{IsUtf8, is_utf8}
 use Rattle.std.proofs.lemmas.Str.{IsUtf8-from_is_utf8, is_utf8-from_IsUtf8}
 use Rattle.lexical_form.specs.Answer.{Answer, IsAnswer, accepted, no_token, utf8_line}
-use Rattle.lexical_form.specs.Bytes.{is_empty}
 use Rattle.lexical_form.specs.Cuts.{state_after}
 use Rattle.lexical_form.specs.Readable.{readable, is_readable}
-use Rattle.lexical_form.specs.Lines.{Line, State, Cut, start, after, lines_of, outermost, Spelled, refused_line}
+use Rattle.lexical_form.specs.Lines.{State, Cut, start, after, lines_of, refused_line}
+use Rattle.lexical_form.specs.LogicalLines.{Line}
 use Rattle.lexical_form.specs.LineReader.{pieces}
 use Rattle.lexical_form.specs.Worked.{AreAnswers}
 use Rattle.lexical_form.specs.WorkedFiles.{AreNoUtf8}
-use Rattle.lexical_form.proofs.Basics.{head_is, tail_is, and_left, and_right, not_some}
-use Rattle.lexical_form.proofs.CutLaws.{cut_is, closed_list}
+use Rattle.lexical_form.proofs.Basics.{head_is, tail_is, and_left, and_right}
+use Rattle.lexical_form.proofs.CutLaws.{cut_is, cut_spells, cut_refuses}
 
 -- the state behind all pieces, and what is left
 abbrev ends : List ℕ → State × List ℕ
@@ -27,19 +27,9 @@ answer_by ls (Some n) = no_token n
 abbrev pub computed : List ℕ → Answer
 computed bytes = let e = ends bytes in answer_by (lines_of e.0) (refused_line (is_readable bytes) e.0 e.1)
 
-closed : (bytes : List ℕ) (s : State) (b : Bool) → is_empty s.brackets ≡ b → is_readable bytes ≡ true → Cut (readable bytes) s [] → cond b None (Some (outermost s.brackets)) ≡ None
-    → Spelled bytes (lines_of s)
-closed bytes s true e w c h = (w, s, c, closed_list s.brackets e, refl)
-closed bytes s false e w c h = not_some (outermost s.brackets) (sym h)
-
-spelled : (bytes : List ℕ) (w : Bool) (s : State) (rest : List ℕ) → is_readable bytes ≡ w → Cut (readable bytes) s rest → refused_line w s rest ≡ None → Spelled bytes (lines_of s)
-spelled bytes w s (c ∷ cs) e cut h = not_some s.line (sym h)
-spelled bytes true s [] e cut h = closed bytes s (is_empty s.brackets) refl e cut h
-spelled bytes false s [] e cut h = not_some s.line (sym h)
-
 found : (bytes : List ℕ) (s : State) (rest : List ℕ) (o : Option ℕ) → refused_line (is_readable bytes) s rest ≡ o → IsUtf8 bytes → Cut (readable bytes) s rest → IsAnswer bytes (answer_by (lines_of s) o)
-found bytes s rest None e u cut = (u, spelled bytes (is_readable bytes) s rest refl cut e)
-found bytes s rest (Some n) e u cut = (u, (s, rest, cut, e))
+found bytes s rest None e u cut = (u, cut_spells bytes s rest cut e)
+found bytes s rest (Some n) e u cut = (u, cut_refuses bytes s rest n cut e)
 
 pub computed_is : (bytes : List ℕ) → IsUtf8 bytes → IsAnswer bytes (computed bytes)
 computed_is bytes u = found bytes (ends bytes).0 (ends bytes).1 (refused_line (is_readable bytes) (ends bytes).0 (ends bytes).1) refl u (cut_is (readable bytes))

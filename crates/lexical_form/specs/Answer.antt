@@ -2,7 +2,8 @@
 use Rattle.std.specs.Prelude.{◌≡◌, ℕ, ◌+◌, List, take}
 use Rattle.std.specs.Str.{IsUtf8}
 use Rattle.std.specs.Str.Lossy.{utf8_valid_len}
-use Rattle.lexical_form.specs.Lines.{Line, line_ends, Spelled, Refused}
+use Rattle.lexical_form.specs.Pieces.{line_ends}
+use Rattle.lexical_form.specs.LogicalLines.{Line, Spelled, Refused}
 
 -- these lines; no UTF-8, at this line; or no token, at this line
 pub data Answer : Type 0 where

@@ -10,11 +10,13 @@ pub mod FormatReader
 pub mod Formats
 pub mod LineReader
 pub mod Lines
+pub mod LogicalLines
 pub mod Longest
 pub mod MarkReader
 pub mod Marks
 pub mod Meaning
 pub mod Numbers
+pub mod Pieces
 pub mod Plain
 pub mod PlainReader
 pub mod Readable

@@ -4,7 +4,7 @@ use Prim.Native.String.{String}
 use Rattle.std.specs.Prelude.{ℕ, List, [], ◌∷◌, codes, map, ⊤, Option, Some, None}
 use Rattle.lexical_form.specs.Tokens as tokens
 use Rattle.lexical_form.specs.Tokens.{Token, token, Piece, Convert, Spec, characters, pieces_of, tokens_of}
-use Rattle.lexical_form.specs.Lines.{Line}
+use Rattle.lexical_form.specs.LogicalLines.{Line}
 use Rattle.lexical_form.specs.Answer.{Answer, IsAnswer, accepted, no_token}
 
 -- each text of a table is what stands beside it

@@ -1,6 +1,6 @@
 -- A worked example: a notebook, written as marimo writes them, and its lines.
 use Rattle.std.specs.Prelude.{ℕ, List, [], ◌∷◌, ◌++◌, codes}
-use Rattle.lexical_form.specs.Lines.{Line}
+use Rattle.lexical_form.specs.LogicalLines.{Line}
 use Rattle.lexical_form.specs.Worked.{name, number, text, mark, f_text, chars, field, line_of}
 
 abbrev pub notebook_file : List ℕ

@@ -1,19 +1,15 @@
 -- Bytes are UTF-8 or not, and each text has one cut.
 use Rattle.std.proofs.Common.{◌≡◌, ℕ, Bool, true, false, List, refl, sym, ap, ◌∙◌}
-use Rattle.std.specs.Str.{IsUtf8, is_utf8}
+use Rattle.std.specs.Str.{is_utf8}
 use Rattle.std.proofs.lemmas.Str.{IsUtf8-from_is_utf8, is_utf8-from_IsUtf8}
 use Rattle.lexical_form.specs.Answer as answers
 use Rattle.lexical_form.specs.Answer.{Answer, IsAnswer, utf8_line}
-use Rattle.lexical_form.proofs.CutLaws as cut
 use Rattle.lexical_form.proofs.CutLaws.{spelled_once, refused_once, spelled_not_refused}
+use Rattle.lexical_form.proofs.WorkedRows.{computed, computed_is}
 use Rattle.lexical_form.proofs.laws.one_answer.Goals as goal
 
-of_text : (bytes : List ℕ) → IsUtf8 bytes → cut.Answer bytes → (a : Answer) × IsAnswer bytes a
-of_text bytes u (cut.good ls spelled) = (answers.accepted ls, (u, spelled))
-of_text bytes u (cut.bad n refused) = (answers.no_token n, (u, refused))
-
 of_bytes : (bytes : List ℕ) (b : Bool) → is_utf8 bytes ≡ b → (a : Answer) × IsAnswer bytes a
-of_bytes bytes true e = of_text bytes (IsUtf8-from_is_utf8 bytes e) (cut.answer bytes)
+of_bytes bytes true e = (computed bytes, computed_is bytes (IsUtf8-from_is_utf8 bytes e))
 of_bytes bytes false e = (answers.no_utf8 (utf8_line bytes), (λ u. let yes = is_utf8-from_IsUtf8 bytes u in let none : true ≡ false = sym yes ∙ e in cc, refl))
 
 pub returns-clause-some : goal.returns-clause-some
