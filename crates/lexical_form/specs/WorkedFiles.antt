@@ -8,7 +8,7 @@ line_rows =
     -- blank lines and lines with only a comment are none, whatever blanks they hold
     lines "" [] ∷ lines "\n" [] ∷ lines "  " [] ∷ lines "# c" [] ∷ lines "\t# c\n\t\n  \t" [] ∷ row "a" (name "a" ∷ []) ∷ row "a\n" (name "a" ∷ [])
     -- a comment goes up to the line's end
-    ∷ row "a # c" (name "a" ∷ []) ∷ row "a#'(\n" (name "a" ∷ [])
+    ∷ row "a # c" (name "a" ∷ []) ∷ row "a#'(\n" (name "a" ∷ []) ∷ (35 ∷ 0 ∷ 11 ∷ 195 ∷ 169 ∷ [], accepted [])
     -- the number is the line of the first token, the indent the number of spaces before it
     ∷ lines "a\n\n  b" (line_of 1 0 (name "a" ∷ []) ∷ line_of 3 2 (name "b" ∷ []) ∷ [])
     ∷ lines "a\n  # c\n\t\n\t# d\n    b" (line_of 1 0 (name "a" ∷ []) ∷ line_of 5 4 (name "b" ∷ []) ∷ [])

@@ -62,11 +62,13 @@ text_rows =
     ∷ is_text "R'\\8\\x4\\N{x}\\u'"
     -- each escape
     ∷ is_text "'\\\\\\'\\\"\\n\\r\\t\\a\\b\\f\\v\\x41\\u00e9\\U0010ffff\\q\\#'" ∷ is_text "'''a\\\nb'''"
-    -- control characters
-    ∷ (39 ∷ 1 ∷ 11 ∷ 9 ∷ 39 ∷ [], accepted (line_of 1 0 (tokens.token tokens.text (39 ∷ 1 ∷ 11 ∷ 9 ∷ 39 ∷ []) ∷ []) ∷ []))
+    -- control characters, and a letter beyond ASCII
+    ∷ (39 ∷ 0 ∷ 11 ∷ 9 ∷ 39 ∷ [], accepted (line_of 1 0 (tokens.token tokens.text (39 ∷ 0 ∷ 11 ∷ 9 ∷ 39 ∷ []) ∷ []) ∷ []))
+    ∷ (39 ∷ 195 ∷ 169 ∷ 39 ∷ [], accepted (line_of 1 0 (tokens.token tokens.text (39 ∷ 195 ∷ 169 ∷ 39 ∷ []) ∷ []) ∷ []))
     -- one directly behind another; behind a name, which is a prefix only directly before the quote
     ∷ row "''\"a\"" (text "''" ∷ text "\"a\"" ∷ []) ∷ row "'a''b'" (text "'a'" ∷ text "'b'" ∷ []) ∷ row "a''" (name "a" ∷ text "''" ∷ [])
-    ∷ row "r ''" (name "r" ∷ text "''" ∷ []) ∷ row "ar''" (name "ar" ∷ text "''" ∷ [])
+    ∷ row "r ''" (name "r" ∷ text "''" ∷ []) ∷ row "ar''" (name "ar" ∷ text "''" ∷ []) ∷ row "1''" (number "1" ∷ text "''" ∷ [])
+    ∷ row "'a'b" (text "'a'" ∷ name "b" ∷ []) ∷ row "'a'r'b'" (text "'a'" ∷ text "r'b'" ∷ [])
     -- prefixes of Python's that this language doesn't have
     ∷ row "b''" (name "b" ∷ text "''" ∷ []) ∷ row "B''" (name "B" ∷ text "''" ∷ []) ∷ row "u''" (name "u" ∷ text "''" ∷ [])
     ∷ row "U''" (name "U" ∷ text "''" ∷ []) ∷ row "rb''" (name "rb" ∷ text "''" ∷ []) ∷ row "Rb''" (name "Rb" ∷ text "''" ∷ [])
@@ -109,6 +111,7 @@ f_text_rows =
     ∷ is_f_text "Rf'a\\{a}'" (chars "a\\" ∷ field_a ∷ [])
     -- tokens of fields
     ∷ is_f_text "f'{a}{ a\t}'" (field_a ∷ field_a ∷ []) ∷ is_f_text "f'{a!=b}'" (field (name "a" ∷ mark "!=" ∷ name "b" ∷ []) ∷ [])
+    ∷ is_f_text "f'{a=}'" (field (name "a" ∷ mark "=" ∷ []) ∷ [])
     ∷ is_f_text "f'{a[1:2]}'" (field (name "a" ∷ mark "[" ∷ number "1" ∷ mark ":" ∷ number "2" ∷ mark "]" ∷ []) ∷ [])
     ∷ is_f_text "f'{ {}}'" (field (mark "{" ∷ mark "}" ∷ []) ∷ [])
     ∷ is_f_text "f'{a[\"b\"]}'" (field (name "a" ∷ mark "[" ∷ text "\"b\"" ∷ mark "]" ∷ []) ∷ [])
