@@ -1,4 +1,5 @@
--- Logical lines: what a file's text is cut into, and the line at which it is refused (Python language reference, section 2.1).
+-- Logical lines: what a file's text is cut into, and the line at which it is refused (Python language reference, section 2.1). As in `Pieces`,
+-- `before` lists the pieces before a place of the text, the nearest first.
 use Rattle.std.specs.Prelude.{◌≡◌, ℕ, Bool, true, false, if◌then◌else◌, not, ◌&&◌, ◌==◌, IsTrue, List, [], ◌∷◌, ◌++◌, count_by, Option, Some, None}
 use Rattle.std.specs.List.{list_any}
 use Rattle.lexical_form.specs.Bytes.{is_empty, starts}
@@ -42,7 +43,7 @@ abbrev pub lines_ended : List Piece → List Line
 lines_ended [] = []
 lines_ended (p ∷ before) = lines_ended before ++ (if ends_line before p then line_of before else [])
 
--- a logical line whose first token would stand behind a tab (section 2.1.8, narrower)
+-- a tab stands in a logical line that has no token yet, so none may come (section 2.1.8, narrower)
 abbrev pub is_tabbed : List Piece → Bool
 is_tabbed before = is_empty (tokens_in (row_at before)) && list_any is_tab (row_at before)
 
