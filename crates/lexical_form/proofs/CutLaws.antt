@@ -14,7 +14,9 @@ use Rattle.lexical_form.specs.Plain.{f_text_prefixes}
 use Rattle.lexical_form.specs.FTexts.{FText, f_text_spelling, f_part_spelling}
 use Rattle.lexical_form.specs.Longest.{Stands, Longest}
 use Rattle.lexical_form.specs.TokenReader.{next}
-use Rattle.lexical_form.specs.Lines.{Line, Piece, a_token, space, tab, comment, line_end, piece_spelling, State, start, may_take, lines_of, after, is_comment, Fits, Cut, outermost, Spelled, refused_line, Refused}
+use Rattle.lexical_form.specs.Pieces.{Piece, a_token, space, tab, comment, line_end, piece_spelling, is_comment}
+use Rattle.lexical_form.specs.LogicalLines.{Line, Spelled, Refused}
+use Rattle.lexical_form.specs.Lines.{State, start, may_take, lines_of, after, Fits, Cut, outermost, refused_line, ScannedAs, ScanFails}
 use Rattle.lexical_form.specs.Readable.{readable, is_readable}
 use Rattle.lexical_form.specs.LineReader.{fitting, comment_at, piece_at, pieces}
 use Rattle.lexical_form.proofs.Basics.{is_code, and_left, and_right, both, not_true, not_false, if_some, read_is, some_is, not_some}
@@ -24,6 +26,7 @@ use Rattle.lexical_form.proofs.Runs.{Reads, cuts_are_read, read_is_cut, read_is_
 use Rattle.lexical_form.proofs.PlainLongest.{begins_token, stands_begins}
 use Rattle.lexical_form.proofs.FTextLaws.{f_prefix_of}
 use Rattle.lexical_form.proofs.NextLaws.{next_longest, longest_next}
+use Rattle.lexical_form.proofs.ScanLaws.{spelled_by_scan, scan_spells, refused_by_scan, scan_fails}
 
 -- the first byte of a token begins no other piece
 word_begins : (p rest : List ℕ) → is_among p f_text_prefixes ≡ true → starts begins_token (p ++ rest) ≡ true
@@ -178,18 +181,24 @@ cut_once ts s t rest others c d =
     (sym a.state ∙ b.state, sym a.behind ∙ b.behind)
 
 -- Bytes spell one list of lines at most.
+scanned_once : (bytes : List ℕ) (ls ms : List Line) → ScannedAs bytes ls → ScannedAs bytes ms → ls ≡ ms
+scanned_once bytes ls ms a b = let c = cut_once (readable bytes) a.1 b.1 [] [] a.2 b.2 in a.4 ∙ (ap lines_of c.0 ∙ sym b.4)
+
 pub spelled_once : (bytes : List ℕ) (ls ms : List Line) → Spelled bytes ls → Spelled bytes ms → ls ≡ ms
-spelled_once bytes ls ms a b = let c = cut_once (readable bytes) a.1 b.1 [] [] a.2 b.2 in a.4 ∙ (ap lines_of c.0 ∙ sym b.4)
+spelled_once bytes ls ms a b = scanned_once bytes ls ms (scan_spells bytes ls a) (scan_spells bytes ms b)
 
 -- They are refused at one line at most.
-pub refused_once : (bytes : List ℕ) (m n : ℕ) → Refused bytes m → Refused bytes n → m ≡ n
-refused_once bytes m n a b =
+fails_once : (bytes : List ℕ) (m n : ℕ) → ScanFails bytes m → ScanFails bytes n → m ≡ n
+fails_once bytes m n a b =
     let c = cut_once (readable bytes) a.0 b.0 a.1 b.1 a.2 b.2 in
     some_is m n (sym a.3 ∙ (ap (λ s. refused_line (is_readable bytes) s a.1) c.0 ∙ (ap (refused_line (is_readable bytes) b.0) c.1 ∙ b.3)))
 
+pub refused_once : (bytes : List ℕ) (m n : ℕ) → Refused bytes m → Refused bytes n → m ≡ n
+refused_once bytes m n a b = fails_once bytes m n (scan_fails bytes m a) (scan_fails bytes n b)
+
 -- None that spell lines are refused.
-pub spelled_not_refused : (bytes : List ℕ) (ls : List Line) (n : ℕ) → Spelled bytes ls → Refused bytes n → ⊥
-spelled_not_refused bytes ls n a b =
+scanned_not_failing : (bytes : List ℕ) (ls : List Line) (n : ℕ) → ScannedAs bytes ls → ScanFails bytes n → ⊥
+scanned_not_failing bytes ls n a b =
     let c = cut_once (readable bytes) b.0 a.1 b.1 [] b.2 a.2 in
     let whole : is_readable bytes ≡ true = a.0 in
     let closed : is_empty (State.brackets a.1) ≡ true = ap is_empty a.3 in
@@ -197,30 +206,26 @@ spelled_not_refused bytes ls n a b =
     ∙ ap (λ e. cond {A = Option ℕ} e None (Some (outermost (State.brackets a.1)))) closed)
     ∙ (sym (ap (λ s. refused_line (is_readable bytes) s b.1) c.0 ∙ ap (refused_line (is_readable bytes) a.1) c.1) ∙ b.3))
 
--- They spell lines or are refused.
-pub data Answer (bytes : List ℕ) : Type 0 where
-  good : (lines : List Line) → Spelled bytes lines → Answer bytes
-  bad : (line : ℕ) → Refused bytes line → Answer bytes
+pub spelled_not_refused : (bytes : List ℕ) (ls : List Line) (n : ℕ) → Spelled bytes ls → Refused bytes n → ⊥
+spelled_not_refused bytes ls n a b = scanned_not_failing bytes ls n (scan_spells bytes ls a) (scan_fails bytes n b)
 
-closed_list : {A : Type 0} (xs : List A) → is_empty xs ≡ true → xs ≡ []
+pub closed_list : {A : Type 0} (xs : List A) → is_empty xs ≡ true → xs ≡ []
 closed_list [] h = refl
 closed_list (x ∷ xs) h = let none : false ≡ true = h in absurd cc
 
-at_bracket : (bytes : List ℕ) (s : State) (b : Bool) → is_empty s.brackets ≡ b → is_readable bytes ≡ true → Cut (readable bytes) s [] → Answer bytes
-at_bracket bytes s true e w c = good (lines_of s) (w, s, c, closed_list s.brackets e, refl)
-at_bracket bytes s false e w c =
-    bad (outermost s.brackets) (
-      s,
-      [],
-      c,
-      ap (λ w. cond {A = Option ℕ} w (cond {A = Option ℕ} (is_empty s.brackets) None (Some (outermost s.brackets))) (Some s.line)) w
-          ∙ ap (λ e. cond {A = Option ℕ} e None (Some (outermost s.brackets))) e,
-    )
+-- Where the scan ends with no line refused, the bytes spell its lines.
+closed : (bytes : List ℕ) (s : State) (b : Bool) → is_empty s.brackets ≡ b → is_readable bytes ≡ true → Cut (readable bytes) s [] → cond b None (Some (outermost s.brackets)) ≡ None
+    → ScannedAs bytes (lines_of s)
+closed bytes s true e w c h = (w, s, c, closed_list s.brackets e, refl)
+closed bytes s false e w c h = not_some (outermost s.brackets) (sym h)
 
-at_rest : (bytes : List ℕ) (s : State) (rest : List ℕ) (b : Bool) → is_readable bytes ≡ b → Cut (readable bytes) s rest → Answer bytes
-at_rest bytes s (c ∷ cs) b w cut = bad s.line (s, c ∷ cs, cut, refl)
-at_rest bytes s [] true w cut = at_bracket bytes s (is_empty s.brackets) refl w cut
-at_rest bytes s [] false w cut = bad s.line (s, [], cut, ap (λ w. cond {A = Option ℕ} w (cond {A = Option ℕ} (is_empty s.brackets) None (Some (outermost s.brackets))) (Some s.line)) w)
+whole_scan : (bytes : List ℕ) (w : Bool) (s : State) (rest : List ℕ) → is_readable bytes ≡ w → Cut (readable bytes) s rest → refused_line w s rest ≡ None → ScannedAs bytes (lines_of s)
+whole_scan bytes w s (c ∷ cs) e cut h = not_some s.line (sym h)
+whole_scan bytes true s [] e cut h = closed bytes s (is_empty s.brackets) refl e cut h
+whole_scan bytes false s [] e cut h = not_some s.line (sym h)
 
-pub answer : (bytes : List ℕ) → Answer bytes
-answer bytes = at_rest bytes (state_after after start (pieces (readable bytes)).0) (pieces (readable bytes)).1 (is_readable bytes) refl (cut_is (readable bytes))
+pub cut_spells : (bytes : List ℕ) (s : State) (rest : List ℕ) → Cut (readable bytes) s rest → refused_line (is_readable bytes) s rest ≡ None → Spelled bytes (lines_of s)
+cut_spells bytes s rest cut h = spelled_by_scan bytes (lines_of s) (whole_scan bytes (is_readable bytes) s rest refl cut h)
+
+pub cut_refuses : (bytes : List ℕ) (s : State) (rest : List ℕ) (n : ℕ) → Cut (readable bytes) s rest → refused_line (is_readable bytes) s rest ≡ Some n → Refused bytes n
+cut_refuses bytes s rest n cut h = refused_by_scan bytes n (s, rest, cut, h)

@@ -15,6 +15,7 @@ pub mod FTextLaws
 -- For `longest_token`.
 pub mod NextLaws
 -- For `one_answer`.
+pub mod ScanLaws
 pub mod CutLaws
--- For `worked_files`.
+-- For `one_answer`, `worked_tokens` and `worked_files`.
 pub mod WorkedRows

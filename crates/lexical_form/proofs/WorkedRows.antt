@@ -1,65 +1,76 @@
 -- Worked examples are computed by the readers.
-use Rattle.std.proofs.Common.{◌≡◌, ℕ, Bool, true, List, [], ◌∷◌, Option, Some, sym, ap, subst}
+use Rattle.std.proofs.Common.{◌≡◌, ℕ, Bool, true, false, List, [], ◌∷◌, Option, Some, None, refl, sym, ap, subst, ◌∙◌}
 use Rattle.std.specs.Prelude.{map}
+use Rattle.std.specs.List.{list_all}
+use Rattle.std.specs.Str.{IsUtf8, is_utf8}
+use Rattle.std.proofs.lemmas.Str.{IsUtf8-from_is_utf8, is_utf8-from_IsUtf8}
+use Rattle.lexical_form.specs.Answer.{Answer, IsAnswer, accepted, no_token, utf8_line}
 use Rattle.lexical_form.specs.Cuts.{state_after}
 use Rattle.lexical_form.specs.Readable.{readable, is_readable}
-use Rattle.lexical_form.specs.Lines.{Line, Bracket, State, Cut, start, after, lines_of, Spelled, Refused, refused_line}
+use Rattle.lexical_form.specs.Lines.{State, Cut, start, after, lines_of, refused_line}
+use Rattle.lexical_form.specs.LogicalLines.{Line}
 use Rattle.lexical_form.specs.LineReader.{pieces}
-use Rattle.lexical_form.specs.Worked.{AreSpelled, AreRefused}
-use Rattle.lexical_form.proofs.Basics.{head_is, tail_is}
-use Rattle.lexical_form.proofs.CutLaws.{cut_is}
+use Rattle.lexical_form.specs.Worked.{AreAnswers}
+use Rattle.lexical_form.specs.WorkedFiles.{AreNoUtf8}
+use Rattle.lexical_form.proofs.Basics.{head_is, tail_is, and_left, and_right}
+use Rattle.lexical_form.proofs.CutLaws.{cut_is, cut_spells, cut_refuses}
 
 -- the state behind all pieces, and what is left
-abbrev pub ends : List ℕ → State × List ℕ
+abbrev ends : List ℕ → State × List ℕ
 ends bytes = let r = pieces (readable bytes) in (state_after after start r.0, r.1)
 
-abbrev pub refusal : List ℕ → Option ℕ
-refusal bytes = refused_line (is_readable bytes) (ends bytes).0 (ends bytes).1
+abbrev answer_by : List Line → Option ℕ → Answer
+answer_by ls None = accepted ls
+answer_by ls (Some n) = no_token n
 
-pub refused_by : (bytes : List ℕ) (n : ℕ) → refusal bytes ≡ Some n → Refused bytes n
-refused_by bytes n e = ((ends bytes).0, (ends bytes).1, cut_is (readable bytes), e)
+-- what bytes are that are UTF-8
+abbrev pub computed : List ℕ → Answer
+computed bytes = let e = ends bytes in answer_by (lines_of e.0) (refused_line (is_readable bytes) e.0 e.1)
 
-abbrev pub refusals : List (List ℕ × ℕ) → List (Option ℕ)
-refusals rows = map (λ (row : List ℕ × ℕ). refusal row.0) rows
+found : (bytes : List ℕ) (s : State) (rest : List ℕ) (o : Option ℕ) → refused_line (is_readable bytes) s rest ≡ o → IsUtf8 bytes → Cut (readable bytes) s rest → IsAnswer bytes (answer_by (lines_of s) o)
+found bytes s rest None e u cut = (u, cut_spells bytes s rest cut e)
+found bytes s rest (Some n) e u cut = (u, cut_refuses bytes s rest n cut e)
 
-abbrev pub answers : List (List ℕ × ℕ) → List (Option ℕ)
-answers rows = map (λ (row : List ℕ × ℕ). Some row.1) rows
+pub computed_is : (bytes : List ℕ) → IsUtf8 bytes → IsAnswer bytes (computed bytes)
+computed_is bytes u = found bytes (ends bytes).0 (ends bytes).1 (refused_line (is_readable bytes) (ends bytes).0 (ends bytes).1) refl u (cut_is (readable bytes))
 
-pub all_refused : (rows : List (List ℕ × ℕ)) → refusals rows ≡ answers rows → AreRefused rows
-all_refused [] e = tt
-all_refused (row ∷ rows) e = (
-  refused_by row.0 row.1 (head_is (refusal row.0) (Some row.1) (refusals rows) (answers rows) e),
-  all_refused rows (tail_is (refusal row.0) (Some row.1) (refusals rows) (answers rows) e),
+-- a row, and rows
+pub answer_is : (bytes : List ℕ) (a : Answer) → is_utf8 bytes ≡ true → computed bytes ≡ a → IsAnswer bytes a
+answer_is bytes a u e = subst (IsAnswer bytes) e (computed_is bytes (IsUtf8-from_is_utf8 bytes u))
+
+abbrev pub are_utf8 : List (List ℕ × Answer) → Bool
+are_utf8 rows = list_all (λ (row : List ℕ × Answer). is_utf8 row.0) rows
+
+abbrev pub all_computed : List (List ℕ × Answer) → List Answer
+all_computed rows = map (λ (row : List ℕ × Answer). computed row.0) rows
+
+abbrev pub all_wanted : List (List ℕ × Answer) → List Answer
+all_wanted rows = map (λ (row : List ℕ × Answer). row.1) rows
+
+pub all_answers : (rows : List (List ℕ × Answer)) → are_utf8 rows ≡ true → all_computed rows ≡ all_wanted rows → AreAnswers rows
+all_answers [] u e = tt
+all_answers (row ∷ rows) u e = (
+  answer_is row.0 row.1 (and_left (is_utf8 row.0) (are_utf8 rows) u) (head_is (computed row.0) row.1 (all_computed rows) (all_wanted rows) e),
+  all_answers rows (and_right (is_utf8 row.0) (are_utf8 rows) u) (tail_is (computed row.0) row.1 (all_computed rows) (all_wanted rows) e),
 )
 
--- whether all is readable, what is left, the brackets that are open, and the lines
-abbrev pub Outcome : Type 0
-Outcome = Bool × (List ℕ × (List Bracket × List Line))
+-- bytes that aren't UTF-8
+abbrev pub Found : Type 0
+Found = Bool × ℕ
 
-abbrev pub outcome : List ℕ → Outcome
-outcome bytes = let e = ends bytes in (is_readable bytes, (e.1, (State.brackets e.0, lines_of e.0)))
+abbrev pub all_found : List (List ℕ × ℕ) → List Found
+all_found rows = map (λ (row : List ℕ × ℕ). (is_utf8 row.0, utf8_line row.0)) rows
 
-abbrev pub spells : List Line → Outcome
-spells ls = (true, ([], ([], ls)))
+abbrev pub all_bad : List (List ℕ × ℕ) → List Found
+all_bad rows = map (λ (row : List ℕ × ℕ). (false, row.1)) rows
 
-pub spelled_by : (bytes : List ℕ) (ls : List Line) → ◌≡◌ {A = Outcome} (outcome bytes) (spells ls) → Spelled bytes ls
-spelled_by bytes ls e = (
-  ap (λ (o : Outcome). o.0) e,
-  (ends bytes).0,
-  subst (Cut (readable bytes) (ends bytes).0) (ap (λ (o : Outcome). o.1.0) e) (cut_is (readable bytes)),
-  ap (λ (o : Outcome). o.1.1.0) e,
-  sym (ap (λ (o : Outcome). o.1.1.1) e),
-)
+never_utf8 : (bytes : List ℕ) → is_utf8 bytes ≡ false → IsUtf8 bytes → ⊥
+never_utf8 bytes e u = let none : true ≡ false = sym (is_utf8-from_IsUtf8 bytes u) ∙ e in cc
 
-abbrev pub outcomes : List (List ℕ × List Line) → List Outcome
-outcomes rows = map (λ (row : List ℕ × List Line). outcome row.0) rows
-
-abbrev pub spellings : List (List ℕ × List Line) → List Outcome
-spellings rows = map (λ (row : List ℕ × List Line). spells row.1) rows
-
-pub all_spelled : (rows : List (List ℕ × List Line)) → outcomes rows ≡ spellings rows → AreSpelled rows
-all_spelled [] e = tt
-all_spelled (row ∷ rows) e = (
-  spelled_by row.0 row.1 (head_is {A = Outcome} (outcome row.0) (spells row.1) (outcomes rows) (spellings rows) e),
-  all_spelled rows (tail_is {A = Outcome} (outcome row.0) (spells row.1) (outcomes rows) (spellings rows) e),
-)
+pub all_no_utf8 : (rows : List (List ℕ × ℕ)) → all_found rows ≡ all_bad rows → AreNoUtf8 rows
+all_no_utf8 [] e = tt
+all_no_utf8 (row ∷ rows) e =
+    let here = head_is {A = Found} (is_utf8 row.0, utf8_line row.0) (false, row.1) (all_found rows) (all_bad rows) e in (
+      (never_utf8 row.0 (ap (λ (f : Found). f.0) here), sym (ap (λ (f : Found). f.1) here)),
+      all_no_utf8 rows (tail_is {A = Found} (is_utf8 row.0, utf8_line row.0) (false, row.1) (all_found rows) (all_bad rows) e),
+    )

@@ -1,3 +1,4 @@
+pub mod Answer
 pub mod Brackets
 pub mod Bytes
 pub mod Cuts
@@ -9,11 +10,13 @@ pub mod FormatReader
 pub mod Formats
 pub mod LineReader
 pub mod Lines
+pub mod LogicalLines
 pub mod Longest
 pub mod MarkReader
 pub mod Marks
 pub mod Meaning
 pub mod Numbers
+pub mod Pieces
 pub mod Plain
 pub mod PlainReader
 pub mod Readable
@@ -23,3 +26,7 @@ pub mod Texts
 pub mod TokenReader
 pub mod Tokens
 pub mod Worked
+pub mod WorkedEscapes
+pub mod WorkedFiles
+pub mod WorkedNotebook
+pub mod WorkedTokens

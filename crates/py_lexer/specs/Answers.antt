@@ -1,8 +1,7 @@
 -- What `lines` answers.
-use Rattle.std.specs.Prelude.{◌≡◌, ℕ, ◌+◌, Bool, List, Some, None, Result, Ok, Err, take}
-use Rattle.std.specs.Str.{IsUtf8}
-use Rattle.std.specs.Str.Lossy.{utf8_valid_len}
-use Rattle.lexical_form.specs.Lines.{Line, State, Cut, lines_of, line_ends, refused_line, Spelled, Refused}
+use Rattle.std.specs.Prelude.{◌≡◌, ℕ, Bool, List, Some, None, Result, Ok, Err}
+use Rattle.lexical_form.specs.Answer.{IsAnswer, accepted, no_utf8, no_token}
+use Rattle.lexical_form.specs.Lines.{Line, State, Cut, lines_of, refused_line}
 use Rattle.py_lexer.specs.declared.fault.LexFault.{LexFault}
 use Rattle.py_lexer.specs.declared.fault.LexFault.TheVariants as fault
 
@@ -15,9 +14,9 @@ Ends whole s rest (Err fault.Memory) = Unit {0}
 
 -- The bytes spell these lines, or are refused so.
 abbrev pub Answers : List ℕ → Result (List Line) LexFault → Type 0
-Answers bytes (Ok ls) = IsUtf8 bytes × Spelled bytes ls
-Answers bytes (Err (fault.Token n)) = IsUtf8 bytes × Refused bytes n
-Answers bytes (Err (fault.NotUtf8 n)) = (IsUtf8 bytes → ⊥) × (n ≡ 1 + line_ends (take (utf8_valid_len bytes) bytes))
+Answers bytes (Ok ls) = IsAnswer bytes (accepted ls)
+Answers bytes (Err (fault.Token n)) = IsAnswer bytes (no_token n)
+Answers bytes (Err (fault.NotUtf8 n)) = IsAnswer bytes (no_utf8 n)
 Answers bytes (Err fault.Memory) = Unit {0}
 
 -- the same of a text that is cut

@@ -1,21 +1,30 @@
--- Each text has one cut.
-use Rattle.std.proofs.Common.{ℕ, List, ◌⊎◌, inl, inr}
-use Rattle.lexical_form.specs.Lines.{Line, Spelled, Refused}
-use Rattle.lexical_form.proofs.CutLaws.{Answer, good, bad, answer, spelled_once, refused_once, spelled_not_refused}
+-- Bytes are UTF-8 or not, and each text has one cut.
+use Rattle.std.proofs.Common.{◌≡◌, ℕ, Bool, true, false, List, refl, sym, ap, ◌∙◌}
+use Rattle.std.specs.Str.{is_utf8}
+use Rattle.std.proofs.lemmas.Str.{IsUtf8-from_is_utf8, is_utf8-from_IsUtf8}
+use Rattle.lexical_form.specs.Answer as answers
+use Rattle.lexical_form.specs.Answer.{Answer, IsAnswer, utf8_line}
+use Rattle.lexical_form.proofs.CutLaws.{spelled_once, refused_once, spelled_not_refused}
+use Rattle.lexical_form.proofs.WorkedRows.{computed, computed_is}
 use Rattle.lexical_form.proofs.laws.one_answer.Goals as goal
 
-either : (bytes : List ℕ) → Answer bytes → ((ls : List Line) × Spelled bytes ls) ⊎ ((n : ℕ) × Refused bytes n)
-either bytes (good ls spelled) = inl (ls, spelled)
-either bytes (bad n refused) = inr (n, refused)
+of_bytes : (bytes : List ℕ) (b : Bool) → is_utf8 bytes ≡ b → (a : Answer) × IsAnswer bytes a
+of_bytes bytes true e = (computed bytes, computed_is bytes (IsUtf8-from_is_utf8 bytes e))
+of_bytes bytes false e = (answers.no_utf8 (utf8_line bytes), (λ u. let yes = is_utf8-from_IsUtf8 bytes u in let none : true ≡ false = sym yes ∙ e in cc, refl))
 
 pub returns-clause-some : goal.returns-clause-some
-returns-clause-some c = λ bytes. either bytes (answer bytes)
+returns-clause-some c = λ bytes. of_bytes bytes (is_utf8 bytes) refl
 
-pub returns-clause-lines : goal.returns-clause-lines
-returns-clause-lines c = spelled_once
+same : (bytes : List ℕ) (a b : Answer) → IsAnswer bytes a → IsAnswer bytes b → a ≡ b
+same bytes (answers.accepted ls) (answers.accepted ms) h k = ap answers.accepted (spelled_once bytes ls ms h.1 k.1)
+same bytes (answers.accepted ls) (answers.no_utf8 n) h k = absurd (k.0 h.0)
+same bytes (answers.accepted ls) (answers.no_token n) h k = absurd (spelled_not_refused bytes ls n h.1 k.1)
+same bytes (answers.no_utf8 m) (answers.accepted ls) h k = absurd (h.0 k.0)
+same bytes (answers.no_utf8 m) (answers.no_utf8 n) h k = ap answers.no_utf8 (h.1 ∙ sym k.1)
+same bytes (answers.no_utf8 m) (answers.no_token n) h k = absurd (h.0 k.0)
+same bytes (answers.no_token m) (answers.accepted ls) h k = absurd (spelled_not_refused bytes ls m k.1 h.1)
+same bytes (answers.no_token m) (answers.no_utf8 n) h k = absurd (k.0 h.0)
+same bytes (answers.no_token m) (answers.no_token n) h k = ap answers.no_token (refused_once bytes m n h.1 k.1)
 
-pub returns-clause-line : goal.returns-clause-line
-returns-clause-line c = refused_once
-
-pub returns-clause-apart : goal.returns-clause-apart
-returns-clause-apart c = spelled_not_refused
+pub returns-clause-once : goal.returns-clause-once
+returns-clause-once c = same
