@@ -42,7 +42,7 @@ all_end : (c : ℕ) (cs : List ℕ) → list_all is_ascii (c ∷ cs) ≡ true �
 all_end c [] h = and_left (is_ascii c) true h
 all_end c (d ∷ ds) h = all_end d ds (and_right (is_ascii c) (list_all is_ascii (d ∷ ds)) h)
 
-append_ends : (xs : List ℕ) (c : ℕ) (cs : List ℕ) → ends_ascii (c ∷ cs) ≡ true → ends_ascii (xs ++ (c ∷ cs)) ≡ true
+pub append_ends : (xs : List ℕ) (c : ℕ) (cs : List ℕ) → ends_ascii (c ∷ cs) ≡ true → ends_ascii (xs ++ (c ∷ cs)) ≡ true
 append_ends [] c cs h = h
 append_ends (x ∷ []) c cs h = h
 append_ends (x ∷ y ∷ ys) c cs h = append_ends (y ∷ ys) c cs h
