@@ -1,0 +1,4 @@
+pub mod FieldCuts
+pub mod FieldEnds
+pub mod FieldSteps
+pub mod PlainView
