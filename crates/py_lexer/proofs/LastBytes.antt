@@ -25,7 +25,7 @@ name_ascii c h = grind (arith, nat_tests)
 begins_ascii : (c : ℕ) → begins_name c ≡ true → is_ascii c ≡ true
 begins_ascii c h = grind (arith, nat_tests)
 
-quote_ascii : (c : ℕ) → is_quote c ≡ true → is_ascii c ≡ true
+pub quote_ascii : (c : ℕ) → is_quote c ≡ true → is_ascii c ≡ true
 quote_ascii c h = grind (arith, nat_tests)
 
 names_ascii : (cs : List ℕ) → list_all continues_name cs ≡ true → list_all is_ascii cs ≡ true
@@ -47,7 +47,7 @@ append_ends [] c cs h = h
 append_ends (x ∷ []) c cs h = h
 append_ends (x ∷ y ∷ ys) c cs h = append_ends (y ∷ ys) c cs h
 
-side_ends : (q : Quotes) (xs : List ℕ) → is_ascii q.mark ≡ true → ends_ascii (xs ++ side q) ≡ true
+pub side_ends : (q : Quotes) (xs : List ℕ) → is_ascii q.mark ≡ true → ends_ascii (xs ++ side q) ≡ true
 side_ends q xs h = go q.three
   where
     go : (b : Bool) → ends_ascii (xs ++ cond b (q.mark ∷ q.mark ∷ q.mark ∷ []) (q.mark ∷ [])) ≡ true

@@ -1,4 +1,4 @@
--- What `lines` answers.
+-- What `lines_by` answers.
 use Rattle.std.specs.Prelude.{◌≡◌, ℕ, ◌+◌, Bool, List, Some, None, Result, Ok, Err, take}
 use Rattle.std.specs.Str.{IsUtf8}
 use Rattle.std.specs.Str.Lossy.{utf8_valid_len}

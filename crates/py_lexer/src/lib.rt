@@ -21,7 +21,7 @@ pub use fault::LexFault;
 pub use file_text::{is_clean, is_readable, readable};
 pub use formats::format;
 pub use front::plain_token;
-pub use logical_lines::lines;
+pub use logical_lines::lines_by;
 pub use numbers::number;
 pub use plain::{PlainKind, behind_closing, is_f_text_prefix, opening};
 pub use scan::LogicalLine;

@@ -5,3 +5,12 @@ pub mod FieldStepLaws
 pub mod FieldScan
 -- For `field`.
 pub mod FieldEndLaws
+-- For `said`: escapes, and where texts may be cut.
+pub mod EscapeLaws
+pub mod Boundaries
+-- For `pieces`: parts and items of an f-text.
+pub mod PartLaws
+pub mod ItemLaws
+-- For `f_text` and `token`.
+pub mod FTextCutLaws
+pub mod TokenLaws

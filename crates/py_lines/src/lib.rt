@@ -1,6 +1,15 @@
 //! Bytes to the logical lines of the whole language: f-texts, tokens of every kind, lines.
 #![tactic(auto)]
 
+mod f_texts;
 mod field_ends;
 mod fields;
+mod file_lines;
+mod pieces;
 mod plain_tokens;
+mod runs;
+mod said;
+mod tokens;
+
+pub use file_lines::lines;
+pub use tokens::token;

@@ -1,7 +1,7 @@
 -- The text of a file is no longer than the file.
 use Rattle.std.proofs.Common.{◌∙◌, ap, arith, length}
 use Rattle.py_lexer.proofs.CleanLaws.{readable_short}
-use Rattle.py_lexer.proofs.logical_lines.lines.Goals as goal
+use Rattle.py_lexer.proofs.logical_lines.lines_by.Goals as goal
 
 pub text_lines-requires-2-clause-small : goal.text_lines-requires-2-clause-small
 text_lines-requires-2-clause-small g c =
