@@ -8,7 +8,7 @@ use Rattle.lexical_form.specs.Bytes.{is_hex, hex_number, is_character, starts}
 use Rattle.lexical_form.specs.Texts.{hex_digits, is_meant}
 use Rattle.lexical_form.specs.Meaning.{utf8, meant, meant_byte}
 use Rattle.lexical_form.proofs.Basics.{and_left, and_right, not_true, if_some, some_is}
-use Rattle.py_lines.specs.Characters.{first_meant, meant_says, IsEscape}
+use Rattle.py_lines.specs.Characters.{first_meant, IsEscape}
 
 -- std's bytes of a character are those of the definitions
 pub utf8_same : (n : ℕ) → encode_utf8 n ≡ utf8 n
@@ -85,9 +85,11 @@ digits_some (c ∷ cs) n number h e l f =
     ∙ ap (λ (xs : List ℕ). Some (xs, drop (hex_digits c) cs)) says in
     let small = digits_small c cs (hex_digits c) (some_digits c h) (and_left (list_all is_hex (take (hex_digits c) cs)) (is_character (hex_number (take (hex_digits c) cs))) r.0) (omega (arith, e, l, size)) in
     let at : hex_digits c ≡ 1 + n - 1 = omega (arith, e) in
-    let one : suc n ≡ 1 + n = omega arith in
-    (subst (λ (k : ℕ). first_meant (c ∷ cs) ≡ Some (utf8 number, drop k (c ∷ cs))) one (subst (λ (k : ℕ). first_meant (c ∷ cs) ≡ Some (utf8 number, drop k cs)) (sym e) read), record {
-      in_range = omega (arith, l, size);
-      some = omega arith;
-      ascii = subst (λ k. get_or (c ∷ cs) k 0 < 128) at small;
-    })
+    let one : suc n ≡ 1 + n = omega arith in (
+      subst (λ (k : ℕ). first_meant (c ∷ cs) ≡ Some (utf8 number, drop k (c ∷ cs))) one (subst (λ (k : ℕ). first_meant (c ∷ cs) ≡ Some (utf8 number, drop k cs)) (sym e) read),
+      record {
+        in_range = omega (arith, l, size);
+        some = omega arith;
+        ascii = subst (λ k. get_or (c ∷ cs) k 0 < 128) at small;
+      },
+    )

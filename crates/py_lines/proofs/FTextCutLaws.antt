@@ -5,7 +5,7 @@ use Rattle.std.specs.List.{flat_map}
 use Rattle.std.specs.Str.{IsUtf8, IsCharBoundary}
 use Rattle.std.proofs.Math.Seq.{take-append_seam, drop-append_seam}
 use Rattle.py_tree.specs.Names.{continues_name, is_among}
-use Rattle.lexical_form.specs.Bytes.{is_quote, starts, starts_two}
+use Rattle.lexical_form.specs.Bytes.{is_quote, starts_two}
 use Rattle.lexical_form.specs.Reading.{Read, span}
 use Rattle.lexical_form.specs.Tokens as tokens
 use Rattle.lexical_form.specs.Tokens.{Token, Piece, pieces_of}

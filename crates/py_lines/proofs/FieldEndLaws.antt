@@ -5,17 +5,17 @@ use Rattle.std.specs.List.{list_any, flat_map}
 use Rattle.std.specs.Str.{IsUtf8, IsCharBoundary}
 use Rattle.std.proofs.Math.Seq.{take-append_seam, drop-append_seam}
 use Rattle.lexical_form.specs.Bytes.{is_empty, starts}
-use Rattle.lexical_form.specs.Cuts.{Cuts, state_after}
-use Rattle.lexical_form.specs.Reading.{Read, read_all}
+use Rattle.lexical_form.specs.Cuts.{state_after}
+use Rattle.lexical_form.specs.Reading.{Read}
 use Rattle.lexical_form.specs.Tokens as tokens
 use Rattle.lexical_form.specs.Tokens.{Token, Piece, Convert, as_is, repr, str, Spec, tokens_of}
 use Rattle.lexical_form.specs.Texts.{Quotes}
-use Rattle.lexical_form.specs.Formats.{Format, format_spelling, is_format}
+use Rattle.lexical_form.specs.Formats.{Format, format_spelling}
 use Rattle.lexical_form.specs.FormatReader.{format_at}
 use Rattle.lexical_form.specs.Fields.{FieldItem, plain_token, blank, Field, field_item_spelling, convert_spelling, optional_format, field_tail, field_text, FieldFits, open_behind, is_plain_token, is_inside, if_format, is_field}
 use Rattle.lexical_form.specs.FieldReader.{field_item_at, convert_in, convert_at, some_format, format_in, checked_field, closed_field, with_format, field_at}
 use Rattle.lexical_form.specs.FTexts.{field_tokens, optional_spec, field_piece}
-use Rattle.lexical_form.proofs.Basics.{is_code, read_is, some_is, not_some}
+use Rattle.lexical_form.proofs.Basics.{is_code, read_is, not_some}
 use Rattle.lexical_form.proofs.Runs.{cuts_are_read, cuts_flat}
 use Rattle.lexical_form.proofs.FieldLaws.{field_reads}
 use Rattle.lexical_form.proofs.FormatLaws.{format_found}

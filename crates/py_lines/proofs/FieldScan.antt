@@ -1,17 +1,15 @@
 -- The loop over a field's items.
-use Rattle.std.proofs.Common.{◌≡◌, ℕ, ◌+◌, ◌≤◌, ◌<◌, List, [], ◌∷◌, ◌++◌, length, Option, Some, None, refl, sym, ap, subst, ◌∙◌, append_assoc, append-nil, length-append, arith}
+use Rattle.std.proofs.Common.{◌≡◌, ℕ, ◌<◌, List, [], ◌∷◌, ◌++◌, length, Option, Some, None, refl, sym, ap, subst, ◌∙◌, length-append, arith}
 use Rattle.lexical_form.specs.Tokens as pure
 use Rattle.lexical_form.specs.Reading.{Read}
-use Rattle.lexical_form.specs.Cuts.{Cuts, state_after}
-use Rattle.lexical_form.specs.Brackets.{open_after}
-use Rattle.lexical_form.specs.Plain.{Plain}
+use Rattle.lexical_form.specs.Cuts.{state_after}
 use Rattle.lexical_form.specs.Fields.{FieldItem, plain_token, blank, field_item_spelling, FieldFits, open_behind}
 use Rattle.lexical_form.specs.FieldReader.{field_item_at}
 use Rattle.lexical_form.specs.FTexts.{token_of, field_tokens}
-use Rattle.py_lines.specs.FieldSteps.{item_after, item_stepped, item_step, step_says}
+use Rattle.py_lines.specs.FieldSteps.{item_after, item_stepped, step_says}
 use Rattle.py_lines.specs.FieldCuts.{FieldReached, FieldCut}
 use Rattle.lexical_form.proofs.Basics.{some_is, not_some}
-use Rattle.lexical_form.proofs.Runs.{Reads, cuts_more, state_more}
+use Rattle.lexical_form.proofs.Runs.{cuts_more, state_more}
 use Rattle.lexical_form.proofs.FieldLaws.{field_reads}
 use Rattle.py_lines.proofs.FieldStepLaws.{step_same}
 

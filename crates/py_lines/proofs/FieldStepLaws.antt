@@ -1,16 +1,14 @@
 -- The code's step is the reader's.
-use Rattle.std.proofs.Common.{◌≡◌, ℕ, ◌+◌, ◌≤◌, ◌<◌, Bool, true, false, cond, List, [], ◌∷◌, ◌++◌, length, get_or, Option, Some, None, refl, sym, ap, subst, ◌∙◌, arith}
-use Rattle.std.specs.Prelude.{◌==◌, ◌||◌}
+use Rattle.std.proofs.Common.{◌≡◌, ℕ, ◌≤◌, ◌<◌, Bool, true, false, cond, List, [], ◌∷◌, length, get_or, Option, Some, None, refl, arith}
 use Rattle.std.specs.Str.{IsUtf8, IsCharBoundary}
 use Rattle.std.proofs.lemmas.Str.{IsCharBoundary-after_ascii}
 use Rattle.std.proofs.lemmas.Bool.Decides.{nat_tests}
 use Rattle.lexical_form.specs.Tokens as pure
 use Rattle.lexical_form.specs.Reading.{Read}
-use Rattle.lexical_form.specs.Brackets.{open_after}
 use Rattle.lexical_form.specs.Plain.{Plain}
 use Rattle.lexical_form.specs.PlainReader.{next_plain}
 use Rattle.lexical_form.specs.Fields.{FieldItem, plain_token, blank, is_blank, may_come}
-use Rattle.lexical_form.specs.FieldReader.{field_token, field_item_at}
+use Rattle.lexical_form.specs.FieldReader.{field_token}
 use Rattle.lexical_form.specs.TokenReader.{some_plain}
 use Rattle.py_lines.specs.FieldSteps.{item_after, item_stepped, item_step, token_stepped, step_says}
 

@@ -7,15 +7,15 @@ use Rattle.lexical_form.specs.Cuts.{state_after}
 use Rattle.lexical_form.specs.Reading.{Read}
 use Rattle.lexical_form.specs.Tokens.{Piece}
 use Rattle.lexical_form.specs.Texts.{Quotes, Item, GoodItem, repeated, item_spelling, side}
-use Rattle.lexical_form.specs.TextReader.{lead_one, lead_two, lead, behind_quotes, item_at, behind, with_items, items_at}
+use Rattle.lexical_form.specs.TextReader.{lead_two, lead, behind_quotes, item_at, behind, with_items, items_at}
 use Rattle.lexical_form.specs.Fields.{Field}
-use Rattle.lexical_form.specs.FTexts.{FPart, IsFPart, f_part_spelling, f_part_characters, field_of, field_piece, characters_piece, cut_at_field, pieces_behind}
+use Rattle.lexical_form.specs.FTexts.{FPart, IsFPart, f_part_spelling, f_part_characters, field_of, characters_piece, cut_at_field, pieces_behind}
 use Rattle.lexical_form.specs.FTextReader.{f_part_at}
 use Rattle.lexical_form.proofs.Basics.{is_code, some_is, not_some, if_some}
 use Rattle.lexical_form.proofs.Runs.{Reads, cuts_are_read, cuts_flat}
 use Rattle.lexical_form.proofs.Items.{item_reads, side_stuck}
 use Rattle.lexical_form.proofs.FTextLaws.{f_parts}
-use Rattle.py_lines.specs.Characters.{say, Said, part_says, item_says}
+use Rattle.py_lines.specs.Characters.{say, Said, item_says}
 use Rattle.py_lines.specs.PiecesRead.{PiecesRead}
 use Rattle.py_lines.proofs.PartLaws.{State, with_field, part_after, pieces_after, ItemCuts, PartTook, PartIs, part_is}
 

@@ -1,10 +1,10 @@
 -- What the code takes of an f-text is what its reader reads: parts.
-use Rattle.std.proofs.Common.{◌≡◌, ℕ, ◌≤◌, Bool, true, false, cond, List, [], ◌∷◌, ◌++◌, length, take, drop, Option, Some, None, refl, sym, ap, subst, ◌∙◌, append_assoc, append-nil, arith}
+use Rattle.std.proofs.Common.{◌≡◌, ℕ, Bool, true, false, cond, List, [], ◌∷◌, ◌++◌, length, take, drop, Option, Some, None, refl, sym, ap, subst, ◌∙◌, append_assoc, append-nil, arith}
 use Rattle.std.specs.Prelude.{not, ◌==◌, ◌&&◌, ◌||◌, nat_le, map}
 use Rattle.std.specs.List.{list_all}
 use Rattle.std.proofs.lemmas.Bool.Decides.{nat_tests}
 use Rattle.py_tree.specs.Names.{is_digit}
-use Rattle.lexical_form.specs.Bytes.{is_quote, is_brace, is_empty, starts}
+use Rattle.lexical_form.specs.Bytes.{is_quote, is_brace, starts}
 use Rattle.lexical_form.specs.Cuts.{Cuts, state_after}
 use Rattle.lexical_form.specs.Reading.{Read, span, cons_if}
 use Rattle.lexical_form.specs.Tokens.{Piece}
@@ -19,7 +19,7 @@ use Rattle.lexical_form.proofs.Basics.{and_left, and_right}
 use Rattle.lexical_form.proofs.Spans.{span_runs}
 use Rattle.py_lexer.proofs.EndLaws.{same_length}
 use Rattle.py_lines.specs.FieldEnds.{piece_read}
-use Rattle.py_lines.specs.Characters.{is_run_byte, meant_says, raw_says, wide_says, escape_says, say, with_piece, Said, said, field_said, braced_says, slashed_says, run_said, part_says}
+use Rattle.py_lines.specs.Characters.{is_run_byte, meant_says, raw_says, wide_says, escape_says, say, Said, said, field_said, braced_says, slashed_says, run_said, part_says}
 
 abbrev pub State : Type 0
 State = List Piece × List ℕ

@@ -1,6 +1,6 @@
 -- What the parts of an f-text say, by their first bytes: the code's way of reading them. Bytes that stand for themselves are taken in runs,
 -- and a character outside ASCII is taken whole, also behind a backslash.
-use Rattle.std.specs.Prelude.{ℕ, ◌-◌, ◌≤◌, ◌<◌, get_or, Bool, cond, not, ◌&&◌, ◌||◌, ◌==◌, nat_le, nat_lt, List, [], ◌∷◌, ◌++◌, length, take, drop, Option, Some, None}
+use Rattle.std.specs.Prelude.{ℕ, ◌-◌, ◌≤◌, ◌<◌, get_or, Bool, cond, not, ◌&&◌, ◌||◌, ◌==◌, nat_le, List, [], ◌∷◌, ◌++◌, length, take, drop, Option, Some, None}
 use Rattle.lexical_form.specs.Bytes.{is_brace, is_empty, starts}
 use Rattle.lexical_form.specs.Reading.{span}
 use Rattle.lexical_form.specs.Tokens.{Piece}

@@ -1,5 +1,5 @@
 -- The items of a field, as far as they go.
-use Rattle.std.specs.Prelude.{◌≡◌, ℕ, List, [], Option, None}
+use Rattle.std.specs.Prelude.{◌≡◌, ℕ, List, [], None}
 use Rattle.lexical_form.specs.Tokens as pure
 use Rattle.lexical_form.specs.Cuts.{Cuts, state_after}
 use Rattle.lexical_form.specs.Fields.{FieldItem, field_item_spelling, FieldFits, open_behind}

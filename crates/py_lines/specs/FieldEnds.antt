@@ -1,9 +1,8 @@
 -- What stands behind a field's tokens, and the field whole.
-use Rattle.std.specs.Prelude.{◌≡◌, ℕ, Bool, cond, not, ◌&&◌, ◌==◌, ◌≤◌, List, [], ◌∷◌, length, take, drop, Option, Some, None}
+use Rattle.std.specs.Prelude.{◌≡◌, ℕ, Bool, cond, not, ◌&&◌, ◌==◌, ◌≤◌, List, [], ◌∷◌, length, drop, Option, Some, None}
 use Rattle.std.specs.Str.{IsCharBoundary}
 use Rattle.lexical_form.specs.Bytes.{is_empty, starts}
 use Rattle.lexical_form.specs.Reading.{Read}
-use Rattle.lexical_form.specs.Tokens as tokens
 use Rattle.lexical_form.specs.Tokens.{Token, Piece, Convert, Spec}
 use Rattle.lexical_form.specs.Texts.{Quotes}
 use Rattle.lexical_form.specs.FormatReader.{format_at}

@@ -4,7 +4,6 @@ use Rattle.lexical_form.specs.Tokens as pure
 use Rattle.py_lexer.specs.TokenView.{view_token}
 use Rattle.lexical_form.specs.Reading.{Read}
 use Rattle.lexical_form.specs.Brackets.{open_after}
-use Rattle.lexical_form.specs.Plain.{Plain}
 use Rattle.lexical_form.specs.PlainReader.{next_plain}
 use Rattle.lexical_form.specs.TokenReader.{some_plain}
 use Rattle.lexical_form.specs.Fields.{FieldItem, plain_token, blank, is_blank, may_come}

@@ -46,7 +46,12 @@ fn all_pieces(alloc: Global, said: Said) -> Result<Vec<Piece>, AllocError>
 }
 
 /// The pieces of the f-text that begins at the front, and how many bytes it has; none where no token begins there.
-pub fn f_text(alloc: Global, q: Quotes, text: &str, inside: &[u8]) -> Result<Option<(Vec<Piece>, usize)>, AllocError>
+pub fn f_text(
+    alloc: Global,
+    q: Quotes,
+    text: &str,
+    inside: &[u8],
+) -> Result<Option<(Vec<Piece>, usize)>, AllocError>
     requires { Opens text.now (quotes q) inside.now }
     ensures { IfOk result (λ o. MatchOption o (next text.now ≡ None) (λ p. FTextCut text.now p.1 (map view_piece p.0.items))) }
 {

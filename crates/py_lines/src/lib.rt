@@ -9,6 +9,8 @@ mod pieces;
 mod plain_tokens;
 mod runs;
 mod said;
+#[cfg(test)]
+mod tests;
 mod tokens;
 
 pub use file_lines::lines;

@@ -141,7 +141,12 @@ fn digits(bytes: &[u8]) -> Option<(char, usize)>
 
 impl Said {
     // Takes the brace that is spelled twice or the field at the front, and answers what is behind it.
-    fn braced<'a>(&mut self, alloc: Global, q: Quotes, text: &'a str) -> Result<Option<&'a str>, AllocError>
+    fn braced<'a>(
+        &mut self,
+        alloc: Global,
+        q: Quotes,
+        text: &'a str,
+    ) -> Result<Option<&'a str>, AllocError>
         requires { IsTrue (starts kinds.is_brace text.now) }
         ensures steps { IfOk result (λ o. option_map (λ r. (built self.new, r.now)) o ≡ parts.braced_says (quotes q) (built self.old) text.now) }
         ensures text { IfOk result (λ o. IfSome o (λ r. IsUtf8 r.now)) }
@@ -234,7 +239,12 @@ impl Said {
     }
 
     // Takes the part of which a backslash is read, and answers what is behind it.
-    fn slashed<'a>(&mut self, alloc: Global, q: Quotes, text: &'a str) -> Result<Option<&'a str>, AllocError>
+    fn slashed<'a>(
+        &mut self,
+        alloc: Global,
+        q: Quotes,
+        text: &'a str,
+    ) -> Result<Option<&'a str>, AllocError>
         requires { IsTrue (kinds.is_quote q.mark) }
         ensures steps { IfOk result (λ o. option_map (λ r. (built self.new, r.now)) o ≡ parts.slashed_says (quotes q) (built self.old) text.now) }
         ensures text { IfOk result (λ o. IfSome o (λ r. IsUtf8 r.now)) }
@@ -261,7 +271,12 @@ impl Said {
     }
 
     // Takes the part at the front, and answers what is behind it.
-    fn part<'a>(&mut self, alloc: Global, q: Quotes, text: &'a str) -> Result<Option<&'a str>, AllocError>
+    fn part<'a>(
+        &mut self,
+        alloc: Global,
+        q: Quotes,
+        text: &'a str,
+    ) -> Result<Option<&'a str>, AllocError>
         requires { IsTrue (kinds.is_quote q.mark) }
         ensures steps { IfOk result (λ o. option_map (λ r. (built self.new, r.now)) o ≡ parts.part_says (quotes q) (built self.old) text.now) }
         ensures text { IfOk result (λ o. IfSome o (λ r. IsUtf8 r.now)) }
@@ -280,7 +295,12 @@ impl Said {
     }
 
     /// Takes the quotes and the part at the front, and answers what is behind them; none where no part is there.
-    pub fn item<'a>(&mut self, alloc: Global, q: Quotes, text: &'a str) -> Result<Option<&'a str>, AllocError>
+    pub fn item<'a>(
+        &mut self,
+        alloc: Global,
+        q: Quotes,
+        text: &'a str,
+    ) -> Result<Option<&'a str>, AllocError>
         requires { IsTrue (kinds.is_quote q.mark) }
         ensures steps { IfOk result (λ o. option_map (λ r. (built self.new, r.now)) o ≡ parts.item_says (quotes q) (built self.old) text.now) }
         ensures text { IfOk result (λ o. IfSome o (λ r. IsUtf8 r.now)) }

@@ -1,5 +1,5 @@
 -- What is measured is the field that is read.
-use Rattle.std.proofs.Common.{◌≡◌, ◌∙◌, ℕ, ◌-◌, Bool, true, false, List, length, take, sym, ap, subst, option_map}
+use Rattle.std.proofs.Common.{◌∙◌, ◌-◌, length, take, sym, ap, subst, option_map}
 use Rattle.lexical_form.specs.Tokens as tokens
 use Rattle.py_lexer.specs.TokenView.{view_convert}
 use Rattle.py_lexer.specs.Views.{quotes, view_spec}

@@ -1,5 +1,5 @@
 use Rattle.py_lines.specs.FieldSteps.{inside}
-use Rattle.py_lines.proofs.FieldScan.{field_start, field_stepped, field_ended}
+use Rattle.py_lines.proofs.FieldScan.{field_stepped, field_ended}
 use Rattle.py_lines.proofs.fields.items.Goals as goal
 
 pub loop-found-smaller : goal.loop-found-smaller

@@ -1,5 +1,5 @@
 -- A step takes items; the end is where the closing quotes stand, or where no item does.
-use Rattle.std.proofs.Common.{◌≡◌, ◌∙◌, List, ℕ, [], sym, ap, subst}
+use Rattle.std.proofs.Common.{◌∙◌, List, ℕ, sym, ap, subst}
 use Rattle.lexical_form.specs.Tokens.{Piece}
 use Rattle.lexical_form.specs.Texts.{side}
 use Rattle.lexical_form.specs.TextReader.{behind}

@@ -1,5 +1,5 @@
 -- An f-text, where its prefix and a quote stand, else another token.
-use Rattle.std.proofs.Common.{◌≡◌, ◌∙◌, Option, ℕ, List, sym, ap, subst}
+use Rattle.std.proofs.Common.{◌≡◌, ◌∙◌, sym, ap, subst}
 use Rattle.std.specs.Prelude.{IfOk}
 use Rattle.lexical_form.specs.Reading.{Read}
 use Rattle.lexical_form.specs.Tokens.{Token}
