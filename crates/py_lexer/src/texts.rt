@@ -77,7 +77,11 @@ fn character_number(digits: &[u8]) -> Option<u32>
         }
         number = 16 * number + hex_digit(*digit);
     }
-    if is_character(number) { Some(number) } else { None }
+    if is_character(number) {
+        Some(number)
+    } else {
+        None
+    }
 }
 
 /// The character whose number the bytes are in hexadecimal digits; none where they are no such digits, or no character has that number.

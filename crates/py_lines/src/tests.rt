@@ -143,6 +143,9 @@ fn written(alloc: Global, lines: &[LogicalLine]) -> Result<String, AllocError> {
 }
 
 fn answered(alloc: Global, bytes: &[u8]) -> Result<String, AllocError> {
+    if bytes.len() > 10_000 {
+        return String::from_str(alloc, "a long file");
+    }
     match lines(alloc, bytes) {
         Ok(lines) => written(alloc, lines.as_slice()),
         Err(LexFault::Token { line }) => format!(in alloc; "Token {line}"),
