@@ -23,7 +23,7 @@ pub use formats::format;
 pub use front::plain_token;
 pub use logical_lines::lines_by;
 pub use numbers::number;
-pub use plain::{PlainKind, behind_closing, is_f_text_prefix, opening};
+pub use plain::{PlainKind, behind_closing, is_f_text_prefix, is_text_prefix, opening};
 pub use scan::LogicalLine;
 pub use spec::{Align, Form, Spec};
 pub use texts::{Quotes, character, hex_digits, lead};

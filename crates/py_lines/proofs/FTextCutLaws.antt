@@ -47,7 +47,7 @@ two_front m (c ∷ []) h = let none : false ≡ true = h in absurd cc
 two_front m (c ∷ d ∷ ds) h =
     ap (λ x. x ∷ d ∷ ds) (is_code c m (and_left (c == m) (d == m) h)) ∙ ap (λ x. m ∷ x ∷ ds) (is_code d m (and_right (c == m) (d == m) h))
 
-opening_front : (raw : Bool) (m : ℕ) (more : List ℕ) → (m ∷ more) ≡ side (opening raw m more) ++ behind_opening (opening raw m more) more
+pub opening_front : (raw : Bool) (m : ℕ) (more : List ℕ) → (m ∷ more) ≡ side (opening raw m more) ++ behind_opening (opening raw m more) more
 opening_front raw m more = go (starts_two m more) refl
   where
     go : (b : Bool) → starts_two m more ≡ b → (m ∷ more) ≡ cond b (m ∷ m ∷ m ∷ []) (m ∷ []) ++ cond b (drop 2 more) more
@@ -76,7 +76,7 @@ pub record Cut (ts : List ℕ) (n : ℕ) (behind : List ℕ) : Type 0 where
   pub boundary : IsCharBoundary ts n
   pub back : drop n ts ≡ behind
 
-cut_at : (ts front behind : List ℕ) (n : ℕ) → IsUtf8 ts → ends_ascii front ≡ true → ts ≡ front ++ behind → n ≡ length ts - length behind → Cut ts n behind
+pub cut_at : (ts front behind : List ℕ) (n : ℕ) → IsUtf8 ts → ends_ascii front ≡ true → ts ≡ front ++ behind → n ≡ length ts - length behind → Cut ts n behind
 cut_at ts front behind n u a e size =
     let l = ap length e ∙ length-append front behind in
     let m : length front ≡ n = omega (arith, l, size) in

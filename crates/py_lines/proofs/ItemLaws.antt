@@ -34,7 +34,7 @@ two_taken m (c ∷ d ∷ ds) = go (c == m) (d == m) refl refl
     go true false e f = ap (λ x. x ∷ []) (is_code c m e)
     go false b e f = refl
 
-lead_taken : (q : Quotes) (ts : List ℕ) → take (lead q ts) ts ≡ repeated (lead q ts) q.mark
+pub lead_taken : (q : Quotes) (ts : List ℕ) → take (lead q ts) ts ≡ repeated (lead q ts) q.mark
 lead_taken q ts = go q.three
   where
     go : (b : Bool) → take (cond b (lead_two q.mark ts) 0) ts ≡ repeated (cond b (lead_two q.mark ts) 0) q.mark
@@ -125,7 +125,7 @@ pieces_stepped q ts s rest t more k h e =
     }
 
 -- ---- the end
-behind_front : (qs ts more : List ℕ) → behind qs ts ≡ Some more → ts ≡ qs ++ more
+pub behind_front : (qs ts more : List ℕ) → behind qs ts ≡ Some more → ts ≡ qs ++ more
 behind_front [] ts more e = some_is ts more e
 behind_front (q ∷ qs) [] more e = not_some more e
 behind_front (q ∷ qs) (c ∷ cs) more e =

@@ -14,3 +14,6 @@ pub mod ItemLaws
 -- For `f_text` and `token`.
 pub mod FTextCutLaws
 pub mod TokenLaws
+-- For `literal_text`.
+pub mod TextParts
+pub mod TextWhole

@@ -52,7 +52,7 @@ run_state q s (x ∷ xs) =
     run_state q (s.0, (s.1 ++ []) ++ (x ∷ [])) xs
     ∙ ap (λ (ys : List ℕ). (s.0, ys)) (ap (λ zs. (zs ++ (x ∷ [])) ++ xs) (append-nil s.1) ∙ append_assoc s.1 (x ∷ []) xs)
 
-say_twice : (s : State) (xs ys : List ℕ) → ◌≡◌ {A = State} (say (say s xs) ys) (say s (xs ++ ys))
+pub say_twice : (s : State) (xs ys : List ℕ) → ◌≡◌ {A = State} (say (say s xs) ys) (say s (xs ++ ys))
 say_twice s xs ys = ap (λ (zs : List ℕ). (s.0, zs)) (append_assoc s.1 xs ys)
 
 say_nothing : (s : State) → ◌≡◌ {A = State} (say s []) s
@@ -111,15 +111,16 @@ braced_part q s ts x None e b = e ∙ b
 braced_part q s ts x (Some r) e b = record { first = b.0; mid = r.1; read = e ∙ b.1; others = []; cuts = refl; state = b.2 }
 
 -- ---- escapes
-record EscapeTook (q : Quotes) (cs chars more : List ℕ) : Type 0 where
-  part : Part
-  mid : List ℕ
-  read : escape_at q cs ≡ Some (part, mid)
-  others : List (Item FPart)
-  cuts : ItemCuts q mid others more
-  state : (s : State) → ◌≡◌ {A = State} (say s chars) (state_after (pieces_after q) (say s (part_meaning q part)) others)
+pub record EscapeTook (q : Quotes) (cs chars more : List ℕ) : Type 0 where
+  pub part : Part
+  pub mid : List ℕ
+  pub read : escape_at q cs ≡ Some (part, mid)
+  pub run : List ℕ
+  pub each : list_all (is_run_byte q) run ≡ true
+  pub rest : mid ≡ run ++ more
+  pub says : chars ≡ part_meaning q part ++ run
 
-abbrev EscapeIs : Quotes → List ℕ → Option (List ℕ × List ℕ) → Type 0
+abbrev pub EscapeIs : Quotes → List ℕ → Option (List ℕ × List ℕ) → Type 0
 EscapeIs q cs None = escape_at q cs ≡ None
 EscapeIs q cs (Some r) = EscapeTook q cs r.0 r.1
 
@@ -128,9 +129,10 @@ one_escape q cs e chars more h m = record {
   part = escape e;
   mid = more;
   read = h;
-  others = [];
-  cuts = refl;
-  state = λ s. ap (say s) (sym m);
+  run = [];
+  each = refl;
+  rest = refl;
+  says = sym m ∙ sym (append-nil (part_meaning q (escape e)));
 }
 
 -- `escape_at` by what it asks
@@ -203,19 +205,17 @@ wide_run q c k h =
 
 wide_is : (q : Quotes) (c : ℕ) (cs : List ℕ) → is_quote q.mark ≡ true → nat_le 128 c ≡ true → EscapeIs q (c ∷ cs) (wide_says (span (is_run_byte q) (c ∷ cs)))
 wide_is q c cs k h =
-    let r = run_of q cs in
-    let s = span (is_run_byte q) cs in
+    let r = span_runs (is_run_byte q) cs in
     let whole : ◌≡◌ {A = List ℕ × List ℕ} (cons_if true c (span (is_run_byte q) cs) (c ∷ cs)) (span (is_run_byte q) (c ∷ cs)) =
     ap (λ b. cons_if b c (span (is_run_byte q) cs) (c ∷ cs)) (sym (wide_run q c k h)) in
     let took : EscapeTook q (c ∷ cs) (92 ∷ c ∷ (span (is_run_byte q) cs).0) (span (is_run_byte q) cs).1 = record {
       part = escape (c ∷ []);
       mid = cs;
       read = wide_read q c cs h;
-      others = Run.items r;
-      cuts = Run.cuts r;
-      state =
-          λ t. sym (Run.says r (say t (part_meaning q (escape (c ∷ []))))
-          ∙ (ap (λ (xs : List ℕ). say (say t xs) (span (is_run_byte q) cs).0) (wide_meaning q c h) ∙ say_twice t (92 ∷ c ∷ []) (span (is_run_byte q) cs).0));
+      run = (span (is_run_byte q) cs).0;
+      each = r.each;
+      rest = r.front;
+      says = ap (λ (xs : List ℕ). xs ++ (span (is_run_byte q) cs).0) (sym (wide_meaning q c h));
     } in
     subst (λ (x : List ℕ × List ℕ). EscapeIs q (c ∷ cs) (wide_says x)) whole took
 
@@ -246,7 +246,7 @@ narrow_is q c cs false true e f =
     ∙ ap (λ b. cond {A = Read Part} (b && true && is_meant c (take (hex_digits c) cs)) (Some (escape (c ∷ take (hex_digits c) cs), drop (hex_digits c) cs)) None) (same_length (hex_digits c) cs)))
     (ap (λ r. cond {A = List ℕ} r (92 ∷ c ∷ take (hex_digits c) cs) (meant (c ∷ take (hex_digits c) cs))) e)
 
-escape_is : (q : Quotes) (ts : List ℕ) → is_quote q.mark ≡ true → EscapeIs q ts (escape_says q ts)
+pub escape_is : (q : Quotes) (ts : List ℕ) → is_quote q.mark ≡ true → EscapeIs q ts (escape_says q ts)
 escape_is q [] k = refl
 escape_is q (c ∷ cs) k = go (nat_le 128 c) refl
   where
@@ -260,9 +260,11 @@ escape_part q s cs (Some r) h e = record {
   first = of_text (EscapeTook.part h);
   mid = EscapeTook.mid h;
   read = e ∙ ap some_part (EscapeTook.read h);
-  others = EscapeTook.others h;
-  cuts = EscapeTook.cuts h;
-  state = EscapeTook.state h s;
+  others = map itself (EscapeTook.run h);
+  cuts = subst (λ (xs : List ℕ). ItemCuts q xs (map itself (EscapeTook.run h)) r.1) (sym (EscapeTook.rest h)) (run_cuts q (EscapeTook.run h) r.1 (EscapeTook.each h));
+  state =
+      ap (say s) (EscapeTook.says h)
+      ∙ (sym (say_twice s (part_meaning q (EscapeTook.part h)) (EscapeTook.run h)) ∙ sym (run_state q (say s (part_meaning q (EscapeTook.part h))) (EscapeTook.run h)));
 }
 
 -- ---- any part
@@ -293,7 +295,7 @@ last q c cs = cond {A = Read FPart} (is_plain q c) (Some (of_text (plain c), cs)
 abbrev slash_or : Quotes → ℕ → List ℕ → Bool → Read FPart
 slash_or q c cs b = cond {A = Read FPart} b (cond {A = Read FPart} (starts is_brace cs) (braced q true cs) (some_part (escape_at q cs))) (last q c cs)
 
-code_is : (c : ℕ) → (c == 92) ≡ true → 92 ≡ c
+pub code_is : (c : ℕ) → (c == 92) ≡ true → 92 ≡ c
 code_is c h = grind (arith, nat_tests)
 
 pub part_is : (q : Quotes) (s : State) (ts : List ℕ) → is_quote q.mark ≡ true → PartIs q s ts (part_says q s ts)

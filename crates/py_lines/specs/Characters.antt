@@ -80,3 +80,12 @@ part_says q s (c ∷ cs) =
 
 abbrev pub item_says : Quotes → List Piece × List ℕ → List ℕ → Said
 item_says q s ts = part_says q (say s (take (lead q ts) ts)) (drop (lead q ts) ts)
+
+-- ---- the same of texts without fields
+abbrev pub text_part_says : Quotes → List Piece × List ℕ → List ℕ → Said
+text_part_says q s [] = None
+text_part_says q s (c ∷ cs) =
+    cond {A = Said} (is_brace c) (Some (say s (c ∷ []), cs)) (cond {A = Said} (c == 92) (said s (escape_says q cs)) (run_said s (span (is_run_byte q) (c ∷ cs))))
+
+abbrev pub text_item_says : Quotes → List Piece × List ℕ → List ℕ → Said
+text_item_says q s ts = text_part_says q (say s (take (lead q ts) ts)) (drop (lead q ts) ts)

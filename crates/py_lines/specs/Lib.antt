@@ -6,3 +6,4 @@ pub mod FieldSteps
 pub mod PieceView
 pub mod PiecesRead
 pub mod PlainView
+pub mod TextsSaid

@@ -11,7 +11,9 @@ mod runs;
 mod said;
 #[cfg(test)]
 mod tests;
+mod texts_said;
 mod tokens;
 
 pub use file_lines::lines;
+pub use texts_said::literal_text;
 pub use tokens::token;

@@ -309,4 +309,36 @@ impl Said {
         self.say(marks)?;
         self.part(alloc, q, behind)
     }
+
+    // Takes the part of a text without fields, and answers what is behind it.
+    fn text_part<'a>(&mut self, q: Quotes, text: &'a str) -> Result<Option<&'a str>, AllocError>
+        requires { IsTrue (kinds.is_quote q.mark) }
+        ensures steps { IfOk result (λ o. option_map (λ r. (built self.new, r.now)) o ≡ parts.text_part_says (quotes q) (built self.old) text.now) }
+        ensures text { IfOk result (λ o. IfSome o (λ r. IsUtf8 r.now)) }
+    {
+        let [first, ..] = text.as_bytes() else {
+            return Ok(None);
+        };
+        if *first == b'{' || *first == b'}' {
+            let (brace, behind) = split_first(text);
+            self.say(brace)?;
+            return Ok(Some(behind));
+        }
+        if *first == b'\\' {
+            let (_slash, behind) = split_first(text);
+            return self.escape(q, behind);
+        }
+        self.run(q, text)
+    }
+
+    /// The same of a text without fields.
+    pub fn text_item<'a>(&mut self, q: Quotes, text: &'a str) -> Result<Option<&'a str>, AllocError>
+        requires { IsTrue (kinds.is_quote q.mark) }
+        ensures steps { IfOk result (λ o. option_map (λ r. (built self.new, r.now)) o ≡ parts.text_item_says (quotes q) (built self.old) text.now) }
+        ensures text { IfOk result (λ o. IfSome o (λ r. IsUtf8 r.now)) }
+    {
+        let (marks, behind) = split_lead(q, text);
+        self.say(marks)?;
+        self.text_part(q, behind)
+    }
 }

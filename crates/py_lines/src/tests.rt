@@ -1,6 +1,6 @@
 // A file with a token of every kind. The lines, spellings and kinds that are wanted are those that Python 3.11's `tokenize` gives for the
 // same file; the pieces of f-texts are written by hand.
-use crate::lines;
+use crate::{lines, literal_text};
 use py_lexer::{
     Align, Convert, Form, LexFault, LogicalLine, Piece, Pieces, Spec, Token, TokenKind, Tokens,
 };
@@ -197,5 +197,46 @@ fn answers_small_files(rt: HostRuntime) -> Result<(), Fail> {
         assert_eq!(rt; answered(alloc, file.as_bytes())?.as_str(), wanted);
     }
     assert_eq!(rt; answered(alloc, b"f'a\n\xff'")?.as_str(), "NotUtf8 2");
+    Ok(())
+}
+
+fn told(alloc: Global, spelling: &str) -> Result<String, AllocError> {
+    match literal_text(alloc, spelling)? {
+        Some(text) => Ok(text),
+        None => String::from_str(alloc, "no text"),
+    }
+}
+
+// What Python 3.11 evaluates the same spellings to; none where the spelling isn't one text of this language.
+#[test]
+fn says_what_texts_say(rt: HostRuntime) -> Result<(), Fail> {
+    let alloc = rt.alloc();
+    let cases: [(&str, &str); 6] = [
+        ("''", ""),
+        (
+            "'\\n\\r\\t\\a\\b\\f\\v\\\\\\'\\\"\\q\\{'",
+            "\n\r\t\x07\x08\x0c\x0b\\'\"\\q\\{",
+        ),
+        ("\"\\x41\\xe9\\u20ac\\U0001f600é\\é{}\"", "Aé€😀é\\é{}"),
+        ("'''a\\\nb''c\n'''", "ab''c\n"),
+        ("R'\\n\\''", "\\n\\'"),
+        ("r\"\"\"\"\\é\"\"\"", "\"\\é"),
+    ];
+    for (spelling, wanted) in cases {
+        assert_eq!(rt; told(alloc, spelling)?.as_str(), wanted);
+    }
+    for spelling in [
+        "",
+        "a",
+        "'a",
+        "'' ''",
+        "''''",
+        "f''",
+        "b''",
+        "'\\ud800'",
+        "'\\x4'",
+    ] {
+        assert_eq!(rt; told(alloc, spelling)?.as_str(), "no text");
+    }
     Ok(())
 }
