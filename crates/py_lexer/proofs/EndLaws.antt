@@ -8,7 +8,7 @@ use Rattle.lexical_form.specs.Texts.{Quotes, Part, plain, escape, is_plain, hex_
 use Rattle.lexical_form.specs.TextReader.{escape_at, part_at, item_at, behind_quotes, lead}
 use Rattle.py_lexer.specs.Ends.{rest_of, escape_end, part_end, item_end}
 
-same_length : (n : ℕ) (cs : List ℕ) → (length (take n cs) == n) ≡ nat_le n (length cs)
+pub same_length : (n : ℕ) (cs : List ℕ) → (length (take n cs) == n) ≡ nat_le n (length cs)
 same_length n cs = let l = length-take n cs in rw l (grind (arith, nat_tests))
 
 chosen_end : (e : Part) (rest : List ℕ) (b m n : Bool) → rest_of (cond {A = Read Part} (n && b && m) (Some (e, rest)) None) ≡ cond b (cond (n && m) (Some rest) None) None

@@ -25,7 +25,7 @@ name_ascii c h = grind (arith, nat_tests)
 begins_ascii : (c : ℕ) → begins_name c ≡ true → is_ascii c ≡ true
 begins_ascii c h = grind (arith, nat_tests)
 
-quote_ascii : (c : ℕ) → is_quote c ≡ true → is_ascii c ≡ true
+pub quote_ascii : (c : ℕ) → is_quote c ≡ true → is_ascii c ≡ true
 quote_ascii c h = grind (arith, nat_tests)
 
 names_ascii : (cs : List ℕ) → list_all continues_name cs ≡ true → list_all is_ascii cs ≡ true
@@ -42,12 +42,12 @@ all_end : (c : ℕ) (cs : List ℕ) → list_all is_ascii (c ∷ cs) ≡ true �
 all_end c [] h = and_left (is_ascii c) true h
 all_end c (d ∷ ds) h = all_end d ds (and_right (is_ascii c) (list_all is_ascii (d ∷ ds)) h)
 
-append_ends : (xs : List ℕ) (c : ℕ) (cs : List ℕ) → ends_ascii (c ∷ cs) ≡ true → ends_ascii (xs ++ (c ∷ cs)) ≡ true
+pub append_ends : (xs : List ℕ) (c : ℕ) (cs : List ℕ) → ends_ascii (c ∷ cs) ≡ true → ends_ascii (xs ++ (c ∷ cs)) ≡ true
 append_ends [] c cs h = h
 append_ends (x ∷ []) c cs h = h
 append_ends (x ∷ y ∷ ys) c cs h = append_ends (y ∷ ys) c cs h
 
-side_ends : (q : Quotes) (xs : List ℕ) → is_ascii q.mark ≡ true → ends_ascii (xs ++ side q) ≡ true
+pub side_ends : (q : Quotes) (xs : List ℕ) → is_ascii q.mark ≡ true → ends_ascii (xs ++ side q) ≡ true
 side_ends q xs h = go q.three
   where
     go : (b : Bool) → ends_ascii (xs ++ cond b (q.mark ∷ q.mark ∷ q.mark ∷ []) (q.mark ∷ [])) ≡ true

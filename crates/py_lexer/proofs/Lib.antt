@@ -14,6 +14,6 @@ pub mod PlainCuts
 -- For `readable`.
 pub mod CleanLaws
 pub mod EvenFronts
--- For `lines`.
+-- For `lines_by`.
 pub mod Scanning
 pub mod AnswerLaws

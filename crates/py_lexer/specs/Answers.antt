@@ -1,4 +1,4 @@
--- What `lines` answers.
+-- What `lines_by` answers.
 use Rattle.std.specs.Prelude.{◌≡◌, ℕ, Bool, List, Some, None, Result, Ok, Err}
 use Rattle.lexical_form.specs.Answer.{IsAnswer, accepted, no_utf8, no_token}
 use Rattle.lexical_form.specs.Lines.{Line, State, Cut, lines_of, refused_line}

@@ -62,12 +62,12 @@ abbrev pub seen : Option (Token × Bor (List ℕ)) → Option (pure_tokens.Token
 seen None = None
 seen (Some p) = Some (view_token p.0, p.1.now)
 
--- A function value that reads the longest token at the front of a text, and none exactly where no token begins.
+-- A function value that reads the longest token at the front of a text in UTF-8, and none exactly where no token begins.
 pub record ReadsTokens (pre : Global → Bor (List ℕ) → Type 0) (post : Global → Bor (List ℕ) → Result (Option (Token × Bor (List ℕ))) AllocError → Type 0) : Type 0 where
   pub callable : (alloc : Global) (text : Bor (List ℕ)) → pre alloc text
-  pub reads : (alloc : Global) (text : Bor (List ℕ)) (r : Result (Option (Token × Bor (List ℕ))) AllocError) → post alloc text r
+  pub reads : (alloc : Global) (text : Bor (List ℕ)) (r : Result (Option (Token × Bor (List ℕ))) AllocError) → IsUtf8 text.now → post alloc text r
       → IfOk r (λ o. MatchOption (seen o) (NoToken text.now) (λ p. Longest text.now p.0 p.1))
-  pub is_text : (alloc : Global) (text : Bor (List ℕ)) (r : Result (Option (Token × Bor (List ℕ))) AllocError) → post alloc text r
+  pub is_text : (alloc : Global) (text : Bor (List ℕ)) (r : Result (Option (Token × Bor (List ℕ))) AllocError) → IsUtf8 text.now → post alloc text r
       → IfOk r (λ o. IfSome o (λ p. IsUtf8 p.1.now))
 
 abbrev pub view_lines : {E : Type 0} → Result (Vec LogicalLine) E → Result (List pure.Line) E

@@ -84,8 +84,8 @@ impl Brackets {
     }
 }
 
-// The byte that closes the bracket that the byte opens; 0 where it opens none.
-fn closing_of(byte: u8) -> u8
+/// The byte that closes the bracket that the byte opens; 0 where it opens none.
+pub fn closing_of(byte: u8) -> u8
     ensures { result ≡ brackets.closing_of byte }
 {
     match byte {
@@ -96,7 +96,8 @@ fn closing_of(byte: u8) -> u8
     }
 }
 
-fn is_closing(byte: u8) -> bool
+/// Whether the byte is `)`, `]` or `}`.
+pub fn is_closing(byte: u8) -> bool
     ensures { result ≡ brackets.is_closing byte }
 {
     byte == b')' || byte == b']' || byte == b'}'

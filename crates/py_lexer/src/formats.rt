@@ -5,6 +5,7 @@ ghost use Rattle.py_tree.specs.Names as names;
 ghost use Rattle.py_lexer.specs.Views.{view_align, view_form, view_spec};
 ghost use Rattle.lexical_form.specs.Formats as formats;
 ghost use Rattle.lexical_form.specs.Formats.{Format};
+ghost use Rattle.lexical_form.specs.FormatReader.{format_at};
 ghost use Rattle.py_lexer.specs.FormatParts as parts;
 ghost use Rattle.lexical_form.specs.Numbers as numbers;
 ghost use Rattle.lexical_form.specs.Reading.{span};
@@ -20,6 +21,7 @@ pub fn format(bytes: &[u8]) -> Option<(Spec, &[u8])>
     ensures whole { (f : Format) (rest : List ℕ) → IsTrue (formats.is_format f)
         → bytes.now ≡ formats.format_spelling f ++ 125 ∷ rest
         → MatchOption result ⊥ (λ p. (view_spec p.0 ≡ formats.spec_of f) × (p.1.now ≡ 125 ∷ rest)) }
+    ensures reads { option_map (λ p. (view_spec p.0, p.1.now)) result ≡ parts.some_spec (format_at bytes.now) }
 {
     said(bytes)
 }

@@ -13,6 +13,7 @@ use crate::plain::{PlainKind, plain};
 pub fn plain_token(text: &str) -> Option<(PlainKind, &str, &str)>
     ensures longest { MatchOption result (NoPlain text.now)
         (λ p. LongestPlain text.now (record { kind = plain_kind p.0; spelling = p.1.now }) p.2.now) }
+    ensures text { IfSome result (λ p. IsUtf8 p.2.now) }
 {
     let Some((kind, len)) = measured(text) else {
         return None;

@@ -12,7 +12,7 @@ use std::alloc::{AllocError, Global};
 
 /// The logical lines that the bytes are, or the line at which they are refused: `NotUtf8` with the line of the first byte that is no part of
 /// a character, or `Token` (Python language reference, section 2.1). `next` reads the longest token at the front of a text.
-pub fn lines<F: Fn(Global, &str) -> Result<Option<(Token, &str)>, AllocError> + Copy>(
+pub fn lines_by<F: Fn(Global, &str) -> Result<Option<(Token, &str)>, AllocError> + Copy>(
     alloc: Global,
     bytes: &[u8],
     next: F,

@@ -40,7 +40,7 @@ pub fn is_f_text_prefix(word: &[u8]) -> bool
     }
 }
 
-// The quotes that open, of which the first is read, and what is behind them.
+/// The quotes that open, of which the first is read, and what is behind them.
 pub fn opening(raw: bool, mark: u8, bytes: &[u8]) -> (Quotes, &[u8])
     ensures quotes { quotes result.0 ≡ reader.opening raw mark bytes.now }
     ensures behind { result.1.now ≡ reader.behind_opening (reader.opening raw mark bytes.now) bytes.now }
@@ -68,7 +68,7 @@ pub fn opening(raw: bool, mark: u8, bytes: &[u8]) -> (Quotes, &[u8])
     )
 }
 
-// What is behind the closing quotes.
+/// What is behind the closing quotes, where they stand at the front.
 pub fn behind_closing(q: Quotes, bytes: &[u8]) -> Option<&[u8]>
     ensures { option_map (λ r. r.now) result ≡ reader.behind (texts.side (quotes q)) bytes.now }
 {

@@ -1,5 +1,5 @@
 // Texts: where they end.
-ghost use Rattle.std.specs.Prelude.{◌≡◌, ◌≤◌, ◌||◌, ◌==◌, not, IsTrue, length, option_map};
+ghost use Rattle.std.specs.Prelude.{◌≡◌, ◌≤◌, ◌||◌, ◌&&◌, ◌==◌, not, cond, Some, None, IsTrue, length, option_map};
 ghost use Rattle.std.specs.List.{list_all};
 ghost use Rattle.lexical_form.specs.Bytes as kinds;
 ghost use Rattle.lexical_form.specs.Texts as texts;
@@ -35,7 +35,8 @@ fn hex_digit(byte: u8) -> u32
     }
 }
 
-fn hex_digits(byte: u8) -> usize
+/// How many hexadecimal digits follow the byte in an escape.
+pub fn hex_digits(byte: u8) -> usize
     ensures { result ≡ texts.hex_digits byte }
 {
     match byte {
@@ -64,19 +65,36 @@ fn is_plain(q: Quotes, byte: u8) -> bool
     byte != q.mark && byte != b'\\' && (q.three || byte != b'\n')
 }
 
-// Whether the hexadecimal digits are the number of a character.
-fn spells_character(digits: &[u8]) -> bool
+// The number of the hexadecimal digits, where a character has it.
+fn character_number(digits: &[u8]) -> Option<u32>
     requires { IsTrue (list_all kinds.is_hex digits.now) }
-    ensures { result ≡ kinds.is_character (kinds.hex_number digits.now) }
+    ensures { result ≡ cond (kinds.is_character (kinds.hex_number digits.now)) (Some (kinds.hex_number digits.now)) None }
 {
     let mut number: u32 = 0;
     for digit in digits {
         if number >= 0x11_0000 {
-            return false;
+            return None;
         }
         number = 16 * number + hex_digit(*digit);
     }
-    is_character(number)
+    if is_character(number) {
+        Some(number)
+    } else {
+        None
+    }
+}
+
+/// The character whose number the bytes are in hexadecimal digits; none where they are no such digits, or no character has that number.
+pub fn character(digits: &[u8]) -> Option<char>
+    ensures { result ≡ cond (list_all kinds.is_hex digits.now && kinds.is_character (kinds.hex_number digits.now)) (Some (kinds.hex_number digits.now)) None }
+{
+    if !are_hex(digits) {
+        return None;
+    }
+    let Some(number) = character_number(digits) else {
+        return None;
+    };
+    char::from_u32(number)
 }
 
 // Whether the bytes may follow the first byte of an escape.
@@ -86,7 +104,7 @@ fn is_meant(first: u8, digits: &[u8]) -> bool
     if hex_digits(first) == 0 {
         !first.is_ascii_digit() && first != b'N'
     } else {
-        are_hex(digits) && spells_character(digits)
+        character(digits).is_some()
     }
 }
 
@@ -145,8 +163,8 @@ fn part(q: Quotes, bytes: &[u8]) -> Option<&[u8]>
     }
 }
 
-// How many quotes stand at the front: two at most, and only where three enclose the text.
-fn lead(q: Quotes, bytes: &[u8]) -> usize
+/// How many quotes stand at the front: two at most, and only where three enclose the text.
+pub fn lead(q: Quotes, bytes: &[u8]) -> usize
     ensures is { result ≡ reader.lead (quotes q) bytes.now }
     ensures in_range { result ≤ length bytes.now }
 {

@@ -29,6 +29,7 @@ pub fn is_digit(byte: u8) -> bool
     byte.is_ascii_digit()
 }
 
+/// Whether the byte is `'` or `"`.
 pub fn is_quote(byte: u8) -> bool
     ensures { result ≡ kinds.is_quote byte }
 {

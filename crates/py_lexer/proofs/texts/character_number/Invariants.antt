@@ -3,7 +3,7 @@ use Rattle.std.proofs.Common.{◌≡◌, ◌≤◌, drop}
 use Rattle.std.specs.Prelude.{fold}
 use Rattle.lexical_form.specs.Bytes.{hex_number}
 use Rattle.py_lexer.proofs.HexNumbers.{hex_step}
-use Rattle.py_lexer.proofs.texts.spells_character.Given as goal
+use Rattle.py_lexer.proofs.texts.character_number.Given as goal
 
 abbrev pub invariant-loop-digit : goal.invariant-loop-digit
 invariant-loop-digit l = record {

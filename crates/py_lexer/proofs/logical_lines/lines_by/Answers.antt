@@ -5,7 +5,7 @@ use Rattle.py_lexer.specs.Answers.{Answered}
 use Rattle.py_lexer.specs.ScanView.{view_lines}
 use Rattle.py_lexer.proofs.AnswerLaws.{answers, clean_answers}
 use Rattle.py_lexer.proofs.CleanLaws.{readable_short}
-use Rattle.py_lexer.proofs.logical_lines.lines.Goals as goal
+use Rattle.py_lexer.proofs.logical_lines.lines_by.Goals as goal
 
 pub text_lines-requires-2-clause-small : goal.text_lines-requires-2-clause-small
 text_lines-requires-2-clause-small g c =
