@@ -47,9 +47,7 @@ fn value<'a>(word: &'a str, name: &str) -> Option<&'a str>
 fn is_option(word: &str) -> bool
     ensures { result ≡ meaning.is_option word.now }
 {
-    value(word, PORT).is_some()
-        || value(word, WORKERS).is_some()
-        || value(word, VISITORS).is_some()
+    value(word, PORT).is_some() || value(word, WORKERS).is_some() || value(word, VISITORS).is_some()
 }
 
 // Whether each word gives one of the options.
@@ -134,9 +132,7 @@ pub fn read_service(words: &[String]) -> Option<Service<'_>>
 {
     match words {
         [word, file, options @ ..]
-            if word.as_str() == "run"
-                && names_something(file.as_str())
-                && are_options(options) => {
+            if word.as_str() == "run" && names_something(file.as_str()) && are_options(options) => {
             with_numbers(
                 file.as_str(),
                 given(options, PORT, GREATEST_PORT, None),

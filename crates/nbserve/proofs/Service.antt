@@ -1,10 +1,10 @@
 -- Services, step by step, and what their status tells.
-use Rattle.std.proofs.Common.{◌≡◌, refl, sym, ap, subst, inl, inr, ◌⊎◌, ⊎_elim, ◌∙◌, ℕ, ◌+◌, ◌-◌, ◌^◌, ◌<◌, ◌≤◌, min, zero, suc, cond, nat_lt, true, false, Bool, List, [], ◌∷◌, ◌++◌, length, map, codes, arith}
+use Rattle.std.proofs.Common.{◌≡◌, refl, sym, ap, subst, inl, inr, ◌⊎◌, ⊎_elim, ◌∙◌, ℕ, ◌+◌, ◌-◌, ◌^◌, ◌<◌, ◌≤◌, min, zero, suc, cond, nat_lt, true, false, Bool, List, [], ◌∷◌, ◌++◌, map, arith}
 use Rattle.std.specs.Prelude.{All, Option, Some, None, IfSome, sum_by}
 use Rattle.std.proofs.lemmas.Bool.{lt-ltb}
 use Rattle.std.proofs.lemmas.List.Elements.{All-head, All-tail}
 use Rattle.std.proofs.lemmas.List.Sums.{sum_by-cons}
-use Rattle.link_io.specs.Outside.{Rose, Took}
+use Rattle.link_io.specs.Outside.{Took}
 use Rattle.link_io.specs.Porches.{Gives, Seen, Stays, Stock, TakesBack}
 use Rattle.command_meaning.specs.Services.{Service}
 use Rattle.program_meaning.specs.Program.{AreRead, FailsFirst, IsAccepted, IsLoaded, IsRefused, Refusal, read_of}
@@ -38,7 +38,7 @@ none_counted alone quota (g ∷ gone) shares sound =
     let sound_first = All-head (λ (d : Seen). d.faults ≡ 0) g.after (map (λ (h : Gone). h.after) gone) sound in
     let sound_rest = All-tail (λ (d : Seen). d.faults ≡ 0) g.after (map (λ (h : Gone). h.after) gone) sound in
     let first : g.report.doors ≡ 0 = not_positive g.report.doors
-        (λ p. let rose : min (g.before.faults + 1) (2 ^ 64 - 1) ≤ g.after.faults = shares.0.doors p in omega (arith, rose, sound_first)) in
+    (λ p. let rose : min (g.before.faults + 1) (2 ^ 64 - 1) ≤ g.after.faults = shares.0.doors p in omega (arith, rose, sound_first)) in
     let rest = none_counted alone quota gone shares.1 sound_rest in
     sum_by-cons (λ (r : Report). r.doors) g.report (map (λ (h : Gone). h.report) gone) ∙ omega (arith, first, rest)
 

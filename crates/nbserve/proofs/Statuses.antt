@@ -1,8 +1,7 @@
 -- What is claimed of the status follows from what the run comes to.
-use Rattle.std.proofs.Common.{◌≡◌, sym, subst, inl, inr, ◌⊎◌, ⊎_elim, ◌∙◌, ℕ, ◌≤◌, List, arith}
+use Rattle.std.proofs.Common.{◌≡◌, sym, subst, inl, inr, ◌⊎◌, ◌∙◌, ℕ, List, arith}
 use Rattle.std.specs.Prelude.{Option, Some, None}
 use Rattle.std.proofs.lemmas.Option.{same_Some}
-use Rattle.command_meaning.specs.Commands.{command_of}
 use Rattle.command_meaning.specs.Services.{Service, service_of}
 use Rattle.link_io.specs.Porches.{Stock}
 use Rattle.nbserve.proofs.Output.{runs_show}

@@ -51,7 +51,11 @@ fn bytes_in<F: Files>(alloc: Global, files: &mut F, file: &str) -> Result<Vec<u8
 }
 
 // The notebook of a file.
-pub fn notebook_in<F: Files>(alloc: Global, files: &mut F, file: &str) -> Result<Notebook, CommandFault>
+pub fn notebook_in<F: Files>(
+    alloc: Global,
+    files: &mut F,
+    file: &str,
+) -> Result<Notebook, CommandFault>
     ensures loaded { IfOk result (λ nb. IsLoaded (F.holds files.old) file.now (view_cells nb)) }
     ensures unloaded { IfErr result
         (λ why. IsUnloaded (F.holds files.old)

@@ -89,7 +89,13 @@ fn main(rt: HostRuntime) -> ExitCode {
     let mut files = RealFiles::new(&rt);
     let mut out = RealOut::new(&rt);
     let mut porch = TcpPorch::new(rt.alloc(), rt);
-    run_counted::<HostRuntime, RealFiles<&HostRuntime>, RealOut<&HostRuntime>, TcpPorch<HostRuntime>, Brand>(
+    run_counted::<
+        HostRuntime,
+        RealFiles<&HostRuntime>,
+        RealOut<&HostRuntime>,
+        TcpPorch<HostRuntime>,
+        Brand,
+    >(
         &rt,
         rt.alloc(),
         words.as_slice(),

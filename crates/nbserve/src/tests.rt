@@ -119,10 +119,7 @@ fn opener(alloc: Global) -> Result<MemLink, AllocError>
 {
     let open = Vec::from_slice(alloc, b"{\"open\":{}}")?;
     let close = Vec::from_slice(alloc, b"{\"close\":{}}")?;
-    Ok(MemLink::new(
-        alloc,
-        Vec::from_array(alloc, [Some(open), Some(close)])?,
-    ))
+    Ok(MemLink::new(alloc, Vec::from_array(alloc, [Some(open), Some(close)])?))
 }
 
 // A porch with one door, to which two such visitors come; the calls of these numbers let nobody in.
@@ -178,14 +175,15 @@ fn texts_sent(alloc: Global, porch: &MemPorch) -> Result<Vec<usize>, AllocError>
     Ok(counts)
 }
 
+const ONE_WORKER: &str = "--workers=1";
+
 #[test]
 fn serves_the_visitors_of_a_porch(rt: HostRuntime) -> Result<(), Fail> {
     let alloc = rt.alloc();
     let all = 1_000_000;
-    let one = "--workers=1";
     let cases: [(&[&str], &[u64], usize, u8, &[u8], &[usize]); 5] = [
         (
-            &["run", "nb.py", "--port=80", one],
+            &["run", "nb.py", "--port=80", ONE_WORKER],
             &[],
             all,
             0,
@@ -193,7 +191,7 @@ fn serves_the_visitors_of_a_porch(rt: HostRuntime) -> Result<(), Fail> {
             &[4, 4],
         ),
         (
-            &["run", "nb.py", "--visitors=1", one, "--port=80"],
+            &["run", "nb.py", "--visitors=1", ONE_WORKER, "--port=80"],
             &[],
             all,
             0,
@@ -201,7 +199,7 @@ fn serves_the_visitors_of_a_porch(rt: HostRuntime) -> Result<(), Fail> {
             &[4],
         ),
         (
-            &["run", "nb.py", one, "--port=80"],
+            &["run", "nb.py", ONE_WORKER, "--port=80"],
             &[1],
             all,
             7,
@@ -217,7 +215,7 @@ fn serves_the_visitors_of_a_porch(rt: HostRuntime) -> Result<(), Fail> {
             &[],
         ),
         (
-            &["run", "nb.py", "--port=80", one],
+            &["run", "nb.py", "--port=80", ONE_WORKER],
             &[1],
             5,
             4,

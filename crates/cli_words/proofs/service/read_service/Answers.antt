@@ -1,5 +1,5 @@
 -- The words are `run`, a file and options, and these give the numbers.
-use Rattle.std.proofs.Common.{◌≡◌, ◌∙◌, sym, ap, rules, arith, true, ◌&&◌, List, ◌∷◌, ℕ, ◌-◌, ◌≤◌, length, take, drop, map, string_bytes, codes, subst}
+use Rattle.std.proofs.Common.{◌≡◌, ◌∙◌, sym, ap, rules, arith, true, List, ◌∷◌, ℕ, ◌-◌, ◌≤◌, length, take, drop, map, string_bytes, codes, subst}
 use Rattle.std.specs.Prelude.{IfSome}
 use Rattle.std.specs.List.{list_all}
 use Rattle.std.specs.Str.{bytes_eq}

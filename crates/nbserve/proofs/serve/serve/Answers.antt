@@ -1,5 +1,5 @@
 -- The notebook isn't loaded, or its visitors are served, or there are no doors.
-use Rattle.std.proofs.Common.{◌≡◌, refl, sym, subst, ℕ, [], ap, Err}
+use Rattle.std.proofs.Common.{◌≡◌, refl, sym, subst, [], ap, Err}
 use Rattle.link_io.specs.Outside.{Took}
 use Rattle.link_io.proofs.Taken.{took_none}
 use Rattle.py_tree.specs.View.{view_cells}
