@@ -54,7 +54,7 @@ def one_visitor(program):
         same((CLOSE, b""), came.heard())
         came.ended()
         same((REPORT.format(1, 0, 1).encode(), b"", 0), server.report())
-    print("a visitor is parted from after 1,000,000 messages")
+    print(f"a visitor is parted from after {MOST:,} messages")
 
 
 if __name__ == "__main__":
