@@ -106,3 +106,20 @@ fn takes_in_no_more_than_the_quota(rt: HostRuntime) -> Result<(), Fail> {
     assert_eq!(rt; doors.first().map(outcome), Some((1, 1, true)));
     Ok(())
 }
+
+// How often a door was asked for a visitor.
+fn calls(door: &MemDoor) -> u64 {
+    door.calls
+}
+
+#[test]
+fn ends_when_nobody_comes_any_more(rt: HostRuntime) -> Result<(), Fail> {
+    let alloc = rt.alloc();
+    let notebook = slider(alloc).ok_or("refused")?;
+    let door = with_two(alloc)?;
+    let mut doors = Vec::from_array(alloc, [door])?;
+    let report = serve_doors(&rt, alloc, &notebook, BUDGET, &mut doors, &NoGate, 9);
+    assert_eq!(rt; report, closed(2, 0));
+    assert_eq!(rt; doors.first().map(calls), Some(3));
+    Ok(())
+}
