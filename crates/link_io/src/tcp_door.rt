@@ -24,6 +24,9 @@ const WIRE_BYTES: usize = 1 << 20;
 // How many bytes one read of a connection asks for.
 const READ_BYTES: usize = 4096;
 
+// Where so many bytes of texts wait, they are sent.
+const WAITING_BYTES: usize = 4096;
+
 /// A door over a listening socket: each visitor is a connection whose handshake succeeds (RFC 6455, section 4.2). One who doesn't
 /// succeed is a failure of the door. It never tells that nobody comes any more.
 #[derive(Drop)]
@@ -83,7 +86,7 @@ impl TcpDoor {
     }
 }
 
-// What each connection is set to before its handshake. Texts are sent at once, and not gathered.
+// What each connection is set to before its handshake. What is written is sent at once: a link gathers texts itself.
 fn set_up(stream: &TcpStream) -> io::Result<()> {
     stream.set_nodelay(true)?;
     stream.set_read_timeout(Some(Duration::from_secs(HANDSHAKE_SECONDS)))?;
@@ -95,6 +98,7 @@ fn limits() -> WebSocketConfig {
         .max_message_size(Some(WIRE_BYTES))
         .max_frame_size(Some(WIRE_BYTES))
         .read_buffer_size(READ_BYTES)
+        .write_buffer_size(WAITING_BYTES)
 }
 
 impl Door for TcpDoor {

@@ -38,10 +38,12 @@ impl WsLink {
         self.faults
     }
 
-    /// Closes the link with a close frame (RFC 6455, section 5.5.1), where the visitor still takes one. It waits for no answer; where the
-    /// frame can't be sent, the connection ends without it.
+    /// Closes the link with a close frame (RFC 6455, section 5.5.1), where the visitor still takes one, behind the texts that wait. It waits
+    /// for no answer; where the frame can't be sent, the connection ends without it.
     pub fn close(mut self) {
-        let _ = self.socket.close(None);
+        if let Err(Error::OutOfMemory) = self.socket.close(None) {
+            let _ = self.socket.flush();
+        }
     }
 
     // What one read gives; none at a ping or a pong. A failure isn't counted yet.
@@ -84,7 +86,7 @@ impl Link for WsLink {
         Received::Failed
     }
 
-    fn send(&mut self, text: &[u8]) -> Sent {
+    fn send(&mut self, text: &[u8], more: bool) -> Sent {
         let Ok(words) = std::str::from_utf8(text) else {
             self.faults = self.faults.saturating_add(1);
             return Sent::Failed;
@@ -92,7 +94,12 @@ impl Link for WsLink {
         let Ok(message) = Message::text(self.alloc, words) else {
             return Sent::Memory;
         };
-        match self.socket.send(message) {
+        let put = if more {
+            self.socket.write(message)
+        } else {
+            self.socket.send(message)
+        };
+        match put {
             Ok(()) => Sent::Done,
             Err(Error::OutOfMemory) => Sent::Memory,
             Err(_) => {
