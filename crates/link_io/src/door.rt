@@ -34,6 +34,7 @@ pub trait Door: Drop {
             × Rose (faults self.old) (faults self.new) × Rests (queue self.old) (queue self.new) }
         ensures memory { result ≡ Accepted.Memory
             → (out self.new ≡ false) × Rests (queue self.old) (queue self.new) }
+        ensures quiet { (result ≡ Accepted.Failed → ⊥) → faults self.new ≡ faults self.old }
         ensures later { faults self.old ≤ faults self.new };
 
     /// Parts from the visitor who is out. It takes no memory and can't fail. Where visitors are told, this one is then the last of

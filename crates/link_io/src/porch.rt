@@ -12,7 +12,7 @@ pub trait Porch {
     /// A door of the porch.
     type Way: Door + Send;
 
-    /// The doors that are still to be given, and those that were given back last, where they are told.
+    /// The doors that are still to be given, those that were given back last, and the port of those that were given last, where they are told.
     ghost told: { Self → Option Stock };
 
     /// How often a call failed, or took back doors of which one had failed. It stands still at 2^64 - 1.
@@ -25,7 +25,7 @@ pub trait Porch {
         ensures count { IfOk result (λ v. length v.items ≡ n) }
         ensures new { IfOk result (λ v. All
             (λ d. (Self.Way.faults d ≡ 0) × (Self.Way.out d ≡ false) × IsUnvisited (Self.Way.queue d)) v.items) }
-        ensures given { IfOk result (λ v. Gives (told self.old) (told self.new)
+        ensures given { IfOk result (λ v. Gives (told self.old) (told self.new) port
             (map (λ d. seen (Self.Way.queue d) (Self.Way.faults d)) v.items)) }
         ensures kept { OnErr result (Stays (told self.old) (told self.new)) }
         ensures later { faults self.old ≤ faults self.new }

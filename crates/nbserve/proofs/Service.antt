@@ -1,15 +1,15 @@
 -- Services, step by step, and what their status tells.
-use Rattle.std.proofs.Common.{◌≡◌, refl, sym, ap, subst, inl, inr, ◌⊎◌, ⊎_elim, ◌∙◌, ℕ, ◌+◌, ◌-◌, ◌^◌, ◌<◌, ◌≤◌, min, zero, suc, cond, nat_lt, true, false, Bool, List, [], ◌∷◌, ◌++◌, map, arith}
+use Rattle.std.proofs.Common.{◌≡◌, refl, sym, ap, subst, inl, inr, ◌⊎◌, ⊎_elim, ◌∙◌, ℕ, ◌+◌, ◌-◌, ◌^◌, ◌<◌, ◌≤◌, min, zero, suc, codes, cond, nat_lt, true, false, Bool, List, [], ◌∷◌, ◌++◌, map, arith}
 use Rattle.std.specs.Prelude.{All, Option, Some, None, IfSome, sum_by}
-use Rattle.std.proofs.lemmas.Bool.{lt-ltb}
-use Rattle.std.proofs.lemmas.List.Elements.{All-head, All-tail}
+use Rattle.std.proofs.lemmas.Bool.{lt-ltb, ltb-true}
+use Rattle.std.proofs.lemmas.List.Elements.{All-cons, All-head, All-nil, All-tail, All-weaker}
 use Rattle.std.proofs.lemmas.List.Sums.{sum_by-cons}
 use Rattle.link_io.specs.Outside.{Took}
 use Rattle.link_io.specs.Porches.{Gives, Seen, Stays, Stock, TakesBack}
 use Rattle.command_meaning.specs.Services.{Service}
 use Rattle.program_meaning.specs.Program.{AreRead, FailsFirst, IsAccepted, IsLoaded, IsRefused, Refusal, read_of}
 use Rattle.py_tree.specs.Trees.{Cell}
-use Rattle.ws_server.specs.Shares.{AreLeft, AreServed, AreShares, Gone}
+use Rattle.ws_server.specs.Shares.{AreReported, AreShares, Gone}
 use Rattle.ws_server.specs.Visitors.{Alone}
 use Rattle.ws_server.specs.declared.report.Report.{Report}
 use Rattle.nbserve.proofs.OneRefusal.{none_refused, one_notebook}
@@ -19,7 +19,7 @@ use Rattle.nbserve.specs.Output as ended
 use Rattle.nbserve.specs.Output.{Ended}
 use Rattle.nbserve.specs.Refusal.{refusal_of}
 use Rattle.nbserve.specs.Service as serves
-use Rattle.nbserve.specs.Service.{IsServed, Misses, ServesTo, report_line, report_status}
+use Rattle.nbserve.specs.Service.{IsNewDoor, IsServed, Misses, ServesTo, report_line, report_status}
 use Rattle.nbserve.specs.declared.command_fault.CommandFault.{CommandFault}
 use Rattle.nbserve.specs.declared.command_fault.CommandFault.TheVariants as stop
 
@@ -42,7 +42,27 @@ none_counted alone quota (g ∷ gone) shares sound =
     let rest = none_counted alone quota gone shares.1 sound_rest in
     sum_by-cons (λ (r : Report). r.doors) g.report (map (λ (h : Gone). h.report) gone) ∙ omega (arith, first, rest)
 
-no_faults : (alone : Alone) (quota : ℕ) (before after : List Seen) (r : Report) → AreServed alone quota before after r ⊎ AreLeft before after r
+-- and where none was counted, none has failed that was new
+none_failed : (alone : Alone) (quota : ℕ) (gone : List Gone) → AreShares alone quota gone
+    → sum_by (λ (r : Report). r.doors) (map (λ (g : Gone). g.report) gone) ≡ 0
+    → All (λ (d : Seen). d.faults ≡ 0) (map (λ (g : Gone). g.before) gone)
+    → All (λ (d : Seen). d.faults ≡ 0) (map (λ (g : Gone). g.after) gone)
+none_failed alone quota [] shares none new = All-nil (λ (d : Seen). d.faults ≡ 0)
+none_failed alone quota (g ∷ gone) shares none new =
+    let sum = sum_by-cons (λ (r : Report). r.doors) g.report (map (λ (h : Gone). h.report) gone) in
+    let first = All-head (λ (d : Seen). d.faults ≡ 0) g.before (map (λ (h : Gone). h.before) gone) new in
+    let others = All-tail (λ (d : Seen). d.faults ≡ 0) g.before (map (λ (h : Gone). h.before) gone) new in
+    All-cons (λ (d : Seen). d.faults ≡ 0) g.after (map (λ (h : Gone). h.after) gone) (shares.0.sound (omega (arith, sum, none)) ∙ first)
+    (none_failed alone quota gone shares.1 (omega (arith, sum, none)) others)
+
+still_sound : (alone : Alone) (quota : ℕ) (before after : List Seen) (r : Report) → AreReported alone quota before after r → r.doors ≡ 0
+    → All (λ (d : Seen). d.faults ≡ 0) before → All (λ (d : Seen). d.faults ≡ 0) after
+still_sound alone quota before after r (inl served) none new =
+    subst (All (λ (d : Seen). d.faults ≡ 0)) served.after_are
+    (none_failed alone quota served.gone served.shares (sym served.sum.doors ∙ none) (subst (All (λ (d : Seen). d.faults ≡ 0)) (sym served.before_are) new))
+still_sound alone quota before after r (inr left) none new = subst (All (λ (d : Seen). d.faults ≡ 0)) (sym left.0) new
+
+no_faults : (alone : Alone) (quota : ℕ) (before after : List Seen) (r : Report) → AreReported alone quota before after r
     → All (λ (d : Seen). d.faults ≡ 0) after → r.doors ≡ 0
 no_faults alone quota before after r (inl served) sound =
     served.sum.doors ∙ none_counted alone quota served.gone served.shares (subst (All (λ (d : Seen). d.faults ≡ 0)) (sym served.after_are) sound)
@@ -58,10 +78,10 @@ counted_failed nb service before now failed r s seven =
 -- ---- the doors of a porch
 
 -- they were the first, and are the returned ones
-pub stock_after : (before between now : Option Stock) (doors returned : List Seen) → Gives before between doors → TakesBack between now returned
-    → IfSome before (λ b. (rest : List Seen) × (b.ahead ≡ doors ++ rest) × (now ≡ Some (record { ahead = rest; returned = returned })))
-stock_after None between now doors returned gives takes = tt
-stock_after (Some b) between now doors returned gives takes = (gives.0, gives.1, subst (λ o. TakesBack o now returned) gives.2 takes)
+pub stock_after : (before between now : Option Stock) (port : ℕ) (doors returned : List Seen) → Gives before between port doors → TakesBack between now returned
+    → IfSome before (λ b. (rest : List Seen) × (b.ahead ≡ doors ++ rest) × (now ≡ Some (record { ahead = rest; returned = returned; port = Some port })))
+stock_after None between now port doors returned gives takes = tt
+stock_after (Some b) between now port doors returned gives takes = (gives.0, gives.1, subst (λ o. TakesBack o now returned) gives.2 takes)
 
 -- ---- why a notebook isn't served
 
@@ -87,6 +107,12 @@ stays_same (Some s) = refl
 
 -- ---- what a status tells
 
+written_at : {come status : ℕ} {text : List ℕ} {before now : Option (List ℕ)} {unwritten : Type 0} → Ended come text status before now unwritten
+    → status ≡ 7 → (come ≡ 7) × Took before now text
+written_at (ended.whole is took) seven = (sym is ∙ seven, took)
+written_at (ended.cut is why less) seven = absurd (omega (arith, is, seven))
+written_at (ended.wanting is none) seven = absurd (omega (arith, is, seven))
+
 ended_whole : {come status : ℕ} {text : List ℕ} {before now : Option (List ℕ)} {unwritten : Type 0} → Ended come text status before now unwritten
     → status ≡ 0 → (come ≡ 0) × Took before now text
 ended_whole (ended.whole is took) done = (sym is ∙ done, took)
@@ -101,6 +127,12 @@ report_statuses r = helper (nat_lt 0 r.doors) where
 
 no_door_counted : (r : Report) → report_status r ≡ 0 → r.doors ≡ 0
 no_door_counted r done = not_positive r.doors (λ p. let seven : report_status r ≡ 7 = ap (λ b. cond b 7 0) (lt-ltb 0 r.doors p) in omega (arith, done, seven))
+
+door_counted : (r : Report) → report_status r ≡ 7 → 0 < r.doors
+door_counted r seven = helper (nat_lt 0 r.doors) refl seven where
+  helper : (b : Bool) → nat_lt 0 r.doors ≡ b → ◌≡◌ {A = ℕ} (cond b 7 0) 7 → 0 < r.doors
+  helper true is e = ltb-true 0 r.doors is
+  helper false is e = absurd (omega (arith, e))
 
 module _ (holds : List ℕ → Option (Option (List ℕ))) (unread failed unwritten : Type 0) (service : Service) (status : ℕ) (before now : Option (List ℕ)) (stock stock_now : Option Stock) where
   abbrev Serves : Type 0
@@ -186,12 +218,31 @@ module _ (holds : List ℕ → Option (Option (List ℕ))) (unread failed unwrit
           let same = one_notebook (read_of all) other nb (loaded_is holds service.file service.file all other refl told loaded).form accepted.form in
           subst (λ cells. IsServed cells service stock stock_now failed r) same is
 
-      pub serves_report : Serves → status ≡ 0 → (r : Report) × IsServed nb service stock stock_now failed r × (r.doors ≡ 0) × Took before now (report_line r)
+      all_sound : (r : Report) → (is : IsServed nb service stock stock_now failed r) → r.doors ≡ 0 → All (λ (d : Seen). d.faults ≡ 0) is.returned
+      all_sound r is none = still_sound _ service.visitors is.doors is.returned r is.report none
+          (All-weaker IsNewDoor (λ (d : Seen). d.faults ≡ 0) (λ d new. new.0) is.doors is.unused)
+
+      pub serves_report : Serves → status ≡ 0
+          → (r : Report) × (is : IsServed nb service stock stock_now failed r) × All (λ (d : Seen). d.faults ≡ 0) is.returned × (r.doors ≡ 0) × Took before now (report_line r)
       serves_report (serves.served other r loaded is ends) at_end =
-          let whole = ended_whole ends at_end in (r, same_served other r loaded is, no_door_counted r whole.0, whole.1)
+          let whole = ended_whole ends at_end in
+          let none = no_door_counted r whole.0 in
+          let served = same_served other r loaded is in
+          (r, served, all_sound r served none, none, whole.1)
       serves_report (serves.no_doors other loaded why stays ends) at_end = let whole = ended_whole ends at_end in absurd (omega (arith, whole.0))
       serves_report (serves.missed come text (serves.refused bytes why read fails one t) ends same) at_end =
           let whole = ended_whole ends at_end in absurd (omega (arith, one, whole.0))
       serves_report (serves.missed come text (serves.unread why three t) ends same) at_end =
           let whole = ended_whole ends at_end in absurd (omega (arith, three, whole.0))
       serves_report (serves.wanting five none stays) at_end = absurd (omega (arith, five, at_end))
+
+      pub serves_fault : Serves → status ≡ 7 → ((r : Report) × IsServed nb service stock stock_now failed r × (0 < r.doors) × Took before now (report_line r))
+          ⊎ (Stays stock stock_now × Took before now (codes "door fault\n"))
+      serves_fault (serves.served other r loaded is ends) seven =
+          let whole = written_at ends seven in inl (r, same_served other r loaded is, door_counted r whole.0, whole.1)
+      serves_fault (serves.no_doors other loaded why stays ends) seven = inr (stays, (written_at ends seven).1)
+      serves_fault (serves.missed come text (serves.refused bytes why read fails one t) ends same) seven =
+          let whole = written_at ends seven in absurd (omega (arith, one, whole.0))
+      serves_fault (serves.missed come text (serves.unread why three t) ends same) seven =
+          let whole = written_at ends seven in absurd (omega (arith, three, whole.0))
+      serves_fault (serves.wanting five none stays) seven = absurd (omega (arith, five, seven))

@@ -5,7 +5,7 @@ use Rattle.std.proofs.lemmas.Option.{same_Some}
 use Rattle.command_meaning.specs.Services.{Service, service_of}
 use Rattle.link_io.specs.Porches.{Stock}
 use Rattle.nbserve.proofs.Output.{runs_show}
-use Rattle.nbserve.proofs.Service.{Cause, cause_accepted, cause_door, cause_of, cause_range, cause_read, cause_refused, cause_write, serves_report}
+use Rattle.nbserve.proofs.Service.{Cause, cause_accepted, cause_door, cause_of, cause_range, cause_read, cause_refused, cause_write, serves_fault, serves_report}
 use Rattle.nbserve.specs.Output.{RunsTo}
 use Rattle.nbserve.specs.Service.{ServesTo}
 use Rattle.nbserve.specs.Top as top
@@ -33,6 +33,7 @@ module _ (holds : List ℕ → Option (Option (List ℕ))) (unread failed unwrit
         accepted = λ s all nb some. absurd (other_words words s none some);
         complete = λ s all nb some. absurd (other_words words s none some);
         report = λ s all nb some. absurd (other_words words s none some);
+        fault = λ s all nb some. absurd (other_words words s none some);
       }
 
   -- words that ask for a service
@@ -80,6 +81,8 @@ module _ (holds : List ℕ → Option (Option (List ℕ))) (unread failed unwrit
           (cause_accepted holds unread failed unwritten s status before now stock stock_now all told nb ok (cause_for s some));
       report = λ s all nb some told ok.
           serves_report holds unread failed unwritten s status before now stock stock_now all told nb ok (serves_for s some);
+      fault = λ s all nb some told ok.
+          serves_fault holds unread failed unwritten s status before now stock stock_now all told nb ok (serves_for s some);
     }
 
   pub comes_shows : ComesTo holds unread failed unwritten words status before now stock stock_now count count_after → Shown

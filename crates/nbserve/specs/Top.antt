@@ -1,9 +1,9 @@
 -- What a run of the program comes to, a server's among them.
-use Rattle.std.specs.Prelude.{◌≡◌, ◌⊎◌, ℕ, ◌≤◌, List, Option, None, Some}
+use Rattle.std.specs.Prelude.{◌≡◌, ◌⊎◌, ℕ, ◌<◌, ◌≤◌, All, List, codes, Option, None, Some}
 use Rattle.command_meaning.specs.Commands.{command_of}
 use Rattle.command_meaning.specs.Services.{Service, service_of}
 use Rattle.link_io.specs.Outside.{Took}
-use Rattle.link_io.specs.Porches.{Stock}
+use Rattle.link_io.specs.Porches.{Seen, Stays, Stock}
 use Rattle.program_meaning.specs.Program.{IsAccepted, IsRefused, read_of}
 use Rattle.py_tree.specs.Trees.{Cell}
 use Rattle.ws_server.specs.declared.report.Report.{Report}
@@ -28,7 +28,8 @@ pub data ComesTo (holds : List ℕ → Option (Option (List ℕ))) (unread faile
 -- refused: a notebook that isn't accepted isn't served, unless a fault comes or memory is wanting.
 -- accepted: one that is, is served, unless a fault comes or memory is wanting;
 -- complete: and where no count of faults rises or stands at its end, it is, or memory is wanting.
--- report: at 0 the visitors were served, no door's fault is among what the report counts, and the report was written and nothing else.
+-- report: at 0 the visitors were served, no door has failed, and the report was written and nothing else;
+-- fault: at 7 too, and the report counts a door's fault, or there were no doors, which was written.
 pub record TopShows (holds : List ℕ → Option (Option (List ℕ))) (unread failed unwritten : Type 0) (words : List (List ℕ)) (status : ℕ) (before now : Option (List ℕ)) (stock stock_now : Option Stock) (count count_after : ℕ) : Type 0 where
   pub range : status ≤ 7
   pub read : status ≡ 3 → unread
@@ -43,4 +44,7 @@ pub record TopShows (holds : List ℕ → Option (Option (List ℕ))) (unread fa
   pub complete : (s : Service) (all : List ℕ) (nb : List Cell) → service_of words ≡ Some s → holds s.file ≡ Some (Some all) → IsAccepted (read_of all) nb
       → (unread → ⊥) → (failed → ⊥) → (unwritten → ⊥) → (status ≡ 0) ⊎ (status ≡ 5)
   pub report : (s : Service) (all : List ℕ) (nb : List Cell) → service_of words ≡ Some s → holds s.file ≡ Some (Some all) → IsAccepted (read_of all) nb
-      → status ≡ 0 → (r : Report) × IsServed nb s stock stock_now failed r × (r.doors ≡ 0) × Took before now (report_line r)
+      → status ≡ 0 → (r : Report) × (is : IsServed nb s stock stock_now failed r) × All (λ (d : Seen). d.faults ≡ 0) is.returned × (r.doors ≡ 0) × Took before now (report_line r)
+  pub fault : (s : Service) (all : List ℕ) (nb : List Cell) → service_of words ≡ Some s → holds s.file ≡ Some (Some all) → IsAccepted (read_of all) nb
+      → status ≡ 7 → ((r : Report) × IsServed nb s stock stock_now failed r × (0 < r.doors) × Took before now (report_line r))
+      ⊎ (Stays stock stock_now × Took before now (codes "door fault\n"))

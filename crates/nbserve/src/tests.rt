@@ -20,7 +20,7 @@ struct Answer {
     written: Vec<u8>,
 }
 
-// A run: its words, which call of the files fails, if one does, and how many bytes the sink has room for.
+// A run: its words, which calls of the files fail, and how many bytes the sink has room for.
 #[derive(Clone, Copy)]
 struct Case<'a> {
     words: &'a [&'a str],
@@ -234,6 +234,9 @@ fn serves_the_visitors_of_a_porch(rt: HostRuntime) -> Result<(), Fail> {
         assert_eq!(rt; answer.status, status);
         assert_eq!(rt; answer.written.as_slice(), wanted);
         assert_eq!(rt; texts_sent(alloc, &porch)?.as_slice(), texts);
+        if status == 0 {
+            assert_eq!(rt; porch.port(), Some(80));
+        }
     }
     Ok(())
 }

@@ -7,3 +7,4 @@ pub mod Sums
 -- For the laws: the visitors of all doors, and what a report tells of them.
 pub mod Totals
 pub mod Tellings
+pub mod Reported

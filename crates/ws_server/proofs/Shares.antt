@@ -1,5 +1,5 @@
 -- The visitors of a door, one after the other.
-use Rattle.std.proofs.Common.{◌≡◌, ◌∙◌, inl, inr, refl, sym, ap, subst, ℕ, ◌+◌, ◌-◌, ◌^◌, ◌<◌, ◌≤◌, min, List, [], ◌∷◌, ◌++◌, append_assoc, append-nil, length, length-append, map, suc, zero, arith}
+use Rattle.std.proofs.Common.{◌≡◌, ◌∙◌, inl, inr, ⊎_elim, refl, sym, ap, subst, ℕ, ◌+◌, ◌-◌, ◌^◌, ◌<◌, ◌≤◌, min, List, [], ◌∷◌, ◌++◌, append_assoc, append-nil, length, length-append, map, suc, zero, arith}
 use Rattle.std.proofs.lemmas.List.{length-map, map-append}
 use Rattle.std.proofs.lemmas.List.Sums.{sum_by-append, sum_by-cons}
 use Rattle.std.specs.Prelude.{◌⊎◌, IfSome, Option, Some, None, sum_by}
@@ -9,7 +9,8 @@ use Rattle.link_io.specs.Outside.{Rose}
 use Rattle.session.specs.declared.ended.Ended.{Ended}
 use Rattle.session.specs.declared.ended.Ended.TheVariants as ended
 use Rattle.ws_server.specs.Reports.{Counts, IsBounded, IsNew, IsSmall, OneMore, closed_in, links_in, many_in, memory_in}
-use Rattle.ws_server.specs.Shares.{AllFit, Fits, IsServedRow, Visitor, all_of, asked}
+use Rattle.link_io.specs.Porches.{Seen}
+use Rattle.ws_server.specs.Shares.{AllFit, Fits, IsServedRow, IsShare, Visitor, all_of, asked}
 use Rattle.ws_server.specs.Visitors.{Alone, IsEnded}
 use Rattle.ws_server.specs.declared.report.Report.{Report}
 
@@ -52,15 +53,29 @@ pub record IsPart (alone : Alone) (before now : Option Row) (r : Report) (turn :
   pub came : List Visitor
   pub counts : Counts (map (λ (v : Visitor). v.end) came) r
   pub row : IsServedRow alone before now came
-  pub visitors : r.visitors ≤ turn
-  pub memory : r.memory ≤ turn
+  pub wanted : ℕ
+  pub memory_is : r.memory ≡ sum_by memory_in (map (λ (v : Visitor). v.end) came) + wanted
+  pub turns : r.visitors + r.doors + wanted ≡ turn
+
+-- no number is above that of the turns
+most_visitors : {alone : Alone} {before now : Option Row} {r : Report} {turn : ℕ} → IsPart alone before now r turn → r.visitors ≤ turn
+most_visitors p = let t = p.turns in omega arith
+
+pub most_memory : {alone : Alone} {before now : Option Row} {r : Report} {turn : ℕ} → IsPart alone before now r turn → r.memory ≤ turn
+most_memory p =
+    let es = map (λ (v : Visitor). v.end) p.came in
+    let t = p.turns in
+    let m = p.memory_is in
+    let all = p.counts.visitors in
+    let one = at_most memory_in memory_one es in
+    omega arith
 
 pub part_small : {alone : Alone} {before now : Option Row} {r : Report} {turn : ℕ} → IsPart alone before now r turn → turn < 2 ^ 32 → IsSmall r
 part_small p few =
     let c = p.counts in
     let es = map (λ (v : Visitor). v.end) p.came in
-    let many = p.visitors in
-    let wanting = p.memory in
+    let many = most_visitors p in
+    let wanting = most_memory p in
     let all = c.visitors in
     record {
       visitors = omega arith;
@@ -82,8 +97,9 @@ part_none alone row r new =
       came = [];
       counts = record { visitors = new.visitors; closed = new.closed; links = new.links; many = new.many; memory = omega arith };
       row = served_none alone row;
-      visitors = omega arith;
-      memory = omega arith;
+      wanted = 0;
+      memory_is = omega arith;
+      turns = let d = new.doors in omega arith;
     }
 
 counts_more : (es : List Ended) (e : Ended) (r s : Report) → Counts es r → OneMore e r s → Counts (es ++ e ∷ []) s
@@ -97,6 +113,14 @@ counts_more es e r s c o =
       many = let a = c.many in let b = o.many in let l = sum many_in in omega arith;
       memory = let a = c.memory in let b = o.memory in let l = sum memory_in in omega arith;
     }
+
+memory_more : (es : List Ended) (e : Ended) (r s : Report) (wanted : ℕ) → r.memory ≡ sum_by memory_in es + wanted → OneMore e r s
+    → s.memory ≡ sum_by memory_in (es ++ e ∷ []) + wanted
+memory_more es e r s wanted is o =
+    let sum = sum_by-append memory_in es (e ∷ []) in
+    let last = sum_by-cons memory_in e [] in
+    let more = o.memory in
+    omega arith
 
 fit_more : (alone : Alone) (vs : List Visitor) (v : Visitor) → AllFit alone vs → Fits alone v → AllFit alone (vs ++ v ∷ [])
 fit_more alone [] v all f = (f, tt)
@@ -140,8 +164,10 @@ part_more {alone = alone} {before = before} {now = now} {r = r} come after s e t
       came = vs ++ v ∷ [];
       counts = subst (λ es. Counts es s) (sym (map-append (λ (v : Visitor). v.end) vs (v ∷ []))) (counts_more (map (λ (v : Visitor). v.end) vs) e r s p.counts o);
       row = row_more alone before now come after vs e told-at told faults p.row lets ends failed parts;
-      visitors = let a = p.visitors in let b = o.visitors in omega arith;
-      memory = let a = p.memory in let b = o.memory in let c = memory_one e in omega arith;
+      wanted = p.wanted;
+      memory_is = subst (λ es. s.memory ≡ sum_by memory_in es + p.wanted) (sym (map-append (λ (v : Visitor). v.end) vs (v ∷ [])))
+          (memory_more (map (λ (v : Visitor). v.end) vs) e r s p.wanted p.memory_is o);
+      turns = let a = p.turns in let b = o.visitors in let d = o.doors in omega arith;
     }
 
 -- no visitor comes
@@ -155,25 +181,26 @@ pub empty_rests : (now after : Option Row) → IsEmpty now after → Rests now a
 empty_rests None after e = tt
 empty_rests (Some b) after e = e.1
 
--- the same numbers, but of faults, and no less want of memory
-pub record IsLike (r s : Report) : Type 0 where
+-- one fault of the door more, or want of memory so often more, and else the same numbers
+pub record IsLike (more : ℕ) (r s : Report) : Type 0 where
   pub visitors : s.visitors ≡ r.visitors
   pub closed : s.closed ≡ r.closed
   pub links : s.links ≡ r.links
   pub many : s.many ≡ r.many
-  pub memory : r.memory ≤ s.memory
-  pub more : s.memory ≤ r.memory + 1
+  pub memory : s.memory ≡ r.memory + more
+  pub one : s.doors + more ≡ r.doors + 1
 
-pub part_rests : {alone : Alone} {before now : Option Row} {r : Report} {turn : ℕ} (after : Option Row) (s : Report)
-    → IsPart alone before now r turn → Rests now after → IsLike r s → IsPart alone before after s (turn + 1)
-part_rests {alone = alone} {before = before} {now = now} after s p rests l =
+pub part_rests : {alone : Alone} {before now : Option Row} {r : Report} {turn : ℕ} (more : ℕ) (after : Option Row) (s : Report)
+    → IsPart alone before now r turn → Rests now after → IsLike more r s → IsPart alone before after s (turn + 1)
+part_rests {alone = alone} {before = before} {now = now} more after s p rests l =
     let c = p.counts in
     record {
       came = p.came;
       counts = record { visitors = l.visitors ∙ c.visitors; closed = l.closed ∙ c.closed; links = l.links ∙ c.links; many = l.many ∙ c.many; memory = let a = c.memory in let b = l.memory in omega arith };
       row = row_rests alone before now after p.came p.row rests;
-      visitors = let a = p.visitors in let b = l.visitors in omega arith;
-      memory = let a = p.memory in let b = l.more in omega arith;
+      wanted = p.wanted + more;
+      memory_is = let a = p.memory_is in let b = l.memory in omega arith;
+      turns = let a = p.turns in let b = l.visitors in let d = l.one in omega arith;
     }
 
 -- nothing changed
@@ -183,8 +210,9 @@ part_ends {alone = alone} {before = before} {now = now} after p rests = record {
   came = p.came;
   counts = p.counts;
   row = row_rests alone before now after p.came p.row rests;
-  visitors = p.visitors;
-  memory = p.memory;
+  wanted = p.wanted;
+  memory_is = p.memory_is;
+  turns = p.turns;
 }
 
 pub rose_some : (a b : ℕ) → a ≡ 0 → Rose a b → 0 < b
@@ -193,12 +221,12 @@ rose_some a b z r = let s : min (a + 1) (2 ^ 64 - 1) ≤ b = r in omega (arith, 
 pub rose_later : (a b c : ℕ) → Rose a b → b ≤ c → Rose a c
 rose_later a b c r h = let s : min (a + 1) (2 ^ 64 - 1) ≤ b = r in omega (arith, s, h)
 
-pub part_bounded : {alone : Alone} {before now : Option Row} {r : Report} {turn : ℕ} → IsPart alone before now r turn → turn < 2 ^ 32 → r.doors ≤ turn → IsBounded r
-part_bounded p few doors =
+pub part_bounded : {alone : Alone} {before now : Option Row} {r : Report} {turn : ℕ} → IsPart alone before now r turn → turn < 2 ^ 32 → IsBounded r
+part_bounded p few =
     let c = p.counts in
     let es = map (λ (v : Visitor). v.end) p.came in
-    let many = p.visitors in
-    let wanting = p.memory in
+    let many = most_visitors p in
+    let wanting = most_memory p in
     let all = c.visitors in
     record {
       visitors = omega arith;
@@ -206,58 +234,59 @@ part_bounded p few doors =
       links = let is = c.links in let b = at_most links_in links_one es in omega arith;
       many = let is = c.many in let b = at_most many_in many_one es in omega arith;
       memory = omega arith;
-      doors = omega arith;
+      doors = let t = p.turns in omega arith;
     }
 
-pub no_doors : (n : ℕ) → (0 < n → ⊥) → n ≡ 0
-no_doors zero h = refl
-no_doors (suc n) h = absurd (h (omega arith))
-
 -- no more visitors are served than come
-came_at_least : {alone : Alone} {now : Option Row} {r : Report} {turn : ℕ} (b : Row) (row : Row) → (p : IsPart alone (Some b) now r turn)
-    → map asked p.came ++ row.waiting ≡ b.waiting → length b.waiting ≡ r.visitors + length row.waiting
-came_at_least b row p first =
-    let vs : List Visitor = p.came in
+waited : (vs : List Visitor) (b row : Row) (n : ℕ) → n ≡ length (map (λ (v : Visitor). v.end) vs) → map asked vs ++ row.waiting ≡ b.waiting
+    → length b.waiting ≡ n + length row.waiting
+waited vs b row n count first =
     let whole : length (map asked vs ++ row.waiting) ≡ length b.waiting = ap (λ xs. length xs) first in
     let sum : length (map asked vs ++ row.waiting) ≡ length (map asked vs) + length row.waiting = length-append (map asked vs) row.waiting in
     let a : length (map asked vs) ≡ length vs = length-map vs asked in
     let e : length (map (λ (v : Visitor). v.end) vs) ≡ length vs = length-map vs (λ (v : Visitor). v.end) in
-    let count = p.counts.visitors in
-    omega arith
-
--- where each turn had a visitor
-pub all_turns : {alone : Alone} {before now : Option Row} {r : Report} {turn : ℕ} (quota : ℕ) → IsPart alone before now r turn
-    → turn ≡ quota → turn ≤ r.visitors → IfSome before (λ b. r.visitors ≡ min quota (length b.waiting))
-all_turns {before = None} quota p is each = tt
-all_turns {before = Some b} quota p is each =
-    let long = came_at_least b p.row.0 p p.row.2.first in
-    let most = p.visitors in
-    omega arith
-
--- where all came before the last turn
-pub all_came : {alone : Alone} {before now : Option Row} {r : Report} {turn : ℕ} (after : Option Row) (quota : ℕ) → IsPart alone before now r turn
-    → IsEmpty now after → turn < quota → IfSome before (λ b. r.visitors ≡ min quota (length b.waiting))
-all_came {before = None} after quota p empty less = tt
-all_came {before = Some b} after quota p empty less =
-    let row : Row = p.row.0 in
-    let e = subst (λ z. IsEmpty z after) p.row.1 empty in
-    let none : length row.waiting ≡ 0 = ap (λ xs. length xs) e.0 in
-    let long = came_at_least b row p p.row.2.first in
-    let most = p.visitors in
     omega arith
 
 -- where nobody waits any more, all who waited were served
 pub none_waits : {alone : Alone} {before now : Option Row} {r : Report} {turn : ℕ} (after : Option Row) (quota : ℕ) (accepts : ℕ) → IsPart alone before now r turn
-    → IsEmpty now after → IfSome before (λ b. (r.visitors ≡ length b.waiting) ⊎ (quota ≤ accepts))
+    → IsEmpty now after → IfSome before (λ b. (r.visitors ≡ length b.waiting) ⊎ (accepts ≡ quota))
 none_waits {before = None} after quota accepts p empty = tt
-none_waits {before = Some b} after quota accepts p empty =
+none_waits {before = Some b} {r = r} after quota accepts p empty =
     let row : Row = p.row.0 in
     let e = subst (λ z. IsEmpty z after) p.row.1 empty in
     let none : length row.waiting ≡ 0 = ap (λ xs. length xs) e.0 in
-    let long = came_at_least b row p p.row.2.first in
+    let long = waited p.came b row r.visitors p.counts.visitors p.row.2.first in
     inl (omega arith)
 
 -- where the accepts were used up
-pub used_up : (P : Row → Type 0) (before : Option Row) (quota accepts : ℕ) → quota ≤ accepts → IfSome before (λ b. P b ⊎ (quota ≤ accepts))
-used_up P None quota accepts most = tt
-used_up P (Some b) quota accepts most = inr most
+pub used_up : (P : Row → Type 0) (before : Option Row) (quota accepts : ℕ) → accepts ≡ quota → IfSome before (λ b. P b ⊎ (accepts ≡ quota))
+used_up P None quota accepts all = tt
+used_up P (Some b) quota accepts all = inr all
+
+-- where no door failed and memory wasn't wanting, as many visitors were served as came, up to the quota
+all_served : (alone : Alone) (before now : Option Row) (vs : List Visitor) (quota n : ℕ) → n ≡ length (map (λ (v : Visitor). v.end) vs)
+    → IsServedRow alone before now vs → n ≤ quota → IfSome before (λ b. (n ≡ length b.waiting) ⊎ (n ≡ quota))
+    → IfSome before (λ b. n ≡ min quota (length b.waiting))
+all_served alone None now vs quota n count row few turns = tt
+all_served alone (Some b) now vs quota n count row few turns =
+    let long = waited vs b row.0 n count row.2.first in
+    ⊎_elim (λ all. omega (arith, all, few)) (λ full. omega (arith, full, long)) turns
+
+turns_only : (before : Option Row) (n doors wanted quota : ℕ) → doors ≡ 0 → wanted ≡ 0 → IfSome before (λ b. (n ≡ length b.waiting) ⊎ (n + doors + wanted ≡ quota))
+    → IfSome before (λ b. (n ≡ length b.waiting) ⊎ (n ≡ quota))
+turns_only None n doors wanted quota d w turns = tt
+turns_only (Some b) n doors wanted quota d w turns = ⊎_elim (λ all. inl all) (λ full. inr (omega (arith, full, d, w))) turns
+
+no_doors : (n : ℕ) → (0 < n → ⊥) → n ≡ 0
+no_doors zero h = refl
+no_doors (suc n) h = absurd (h (omega arith))
+
+pub share_whole : {alone : Alone} {quota : ℕ} {before after : Seen} {r : Report} → IsShare alone quota before after r
+    → (Rose before.faults after.faults → ⊥) → r.memory ≡ 0 → IfSome before.queue (λ b. r.visitors ≡ min quota (length b.waiting))
+share_whole {alone = alone} {quota = quota} {before = before} {after = after} {r = r} s quiet none =
+    let zero_doors = no_doors r.doors (λ some. quiet (s.doors some)) in
+    let memory = s.memory in
+    let zero_wanted : s.wanted ≡ 0 = omega arith in
+    let few = s.few in
+    all_served alone before.queue after.queue s.visitors quota r.visitors s.counts.visitors s.row (omega arith)
+    (turns_only before.queue r.visitors r.doors s.wanted quota zero_doors zero_wanted s.turns)

@@ -8,6 +8,7 @@ use Rattle.std.specs.Prelude.{◌⊎◌, IfSome, Option, Some, sum_by}
 use Rattle.link_io.specs.Doors.{Row}
 use Rattle.link_io.specs.Porches.{Seen}
 use Rattle.session.specs.declared.ended.Ended.{Ended}
+use Rattle.ws_server.proofs.Shares.{share_whole}
 use Rattle.ws_server.specs.Reports.{Counts, IsSum, closed_in, links_in, many_in, memory_in}
 use Rattle.ws_server.specs.Shares.{AllFit, AreShares, Gone, IsServedRow, IsShare, Served, Visitor}
 use Rattle.ws_server.specs.Told.{AreTold, SomeRose, newly_parted, parted_in, waiting_in}
@@ -133,7 +134,7 @@ all_whole alone quota (g ∷ gs) s told quiet none =
     let own : g.report.memory ≡ 0 = omega (arith, memory, none) in
     let others : sum_by (λ (s : Report). s.memory) reports ≡ 0 = omega (arith, memory, none) in
     let first : g.report.visitors ≡ min quota (length (waiting_in g.before.queue)) =
-    whole_of quota g.report.visitors g.before.queue here.0 here.1 (s.0.whole (λ rose. quiet (inl rose)) own) in
+    whole_of quota g.report.visitors g.before.queue here.0 here.1 (share_whole s.0 (λ rose. quiet (inl rose)) own) in
     let rest = all_whole alone quota gs s.1 (All-tail P g.before befores told) (λ rose. quiet (inr rose)) others in
     sum_by-cons (λ (s : Report). s.visitors) g.report reports
     ∙ ap (λ n. n + sum_by (λ (s : Report). s.visitors) reports) first

@@ -1,12 +1,12 @@
 -- What a report tells of the visitors of doors.
-use Rattle.std.specs.Prelude.{◌≡◌, ◌⊎◌, ℕ, ◌+◌, ◌<◌, ◌≤◌, min, List, [], ◌∷◌, ◌++◌, length, map, Option, Some, None, IfSome}
+use Rattle.std.specs.Prelude.{◌≡◌, ◌⊎◌, ℕ, ◌+◌, ◌<◌, ◌≤◌, List, [], ◌∷◌, ◌++◌, length, map, Option, Some, None, IfSome, sum_by}
 use Rattle.link_io.specs.Doors.{Parted, Row}
 use Rattle.link_io.specs.Links.{Item, Told}
 use Rattle.link_io.specs.Outside.{Rose}
 use Rattle.link_io.specs.Porches.{Seen}
 use Rattle.session.specs.declared.ended.Ended.{Ended}
 use Rattle.session.specs.declared.ended.Ended.TheVariants as ended
-use Rattle.ws_server.specs.Reports.{Counts, IsSum, IsUnserved}
+use Rattle.ws_server.specs.Reports.{Counts, IsSum, IsUnserved, memory_in}
 use Rattle.ws_server.specs.Visitors.{Alone, Ends}
 use Rattle.ws_server.specs.declared.report.Report.{Report}
 
@@ -44,19 +44,20 @@ pub record Served (alone : Alone) (before now : Row) (vs : List Visitor) : Type 
 abbrev pub IsServedRow : Alone → Option Row → Option Row → List Visitor → Type 0
 IsServedRow alone before now vs = IfSome before (λ b. (row : Row) × (now ≡ Some row) × Served alone b row vs)
 
--- The share of a door in a report, whose worker accepted at most so often: the visitors who were served, each counted by the end of the session.
--- Faults are counted only where the door's count rose; where it didn't and memory wasn't wanting, as many visitors were served as came, up
--- to the quota. A fault of the door or want of memory costs one accept and ends nothing: where the door tells its visitors, all who waited
--- were served or the accepts were used up.
+-- The share of a door in a report, whose worker accepted at most so often. Each accept was a visitor, who was served and is counted by the end of
+-- the session, a fault of the door, or want of memory for one who would have come. The door's count rose where a fault is counted, and nowhere
+-- else. Where the door tells its visitors, all who waited were served, or the accepts were used up.
 pub record IsShare (alone : Alone) (quota : ℕ) (before after : Seen) (r : Report) : Type 0 where
   pub visitors : List Visitor
+  pub wanted : ℕ
   pub counts : Counts (map (λ (v : Visitor). v.end) visitors) r
+  pub memory : r.memory ≡ sum_by memory_in (map (λ (v : Visitor). v.end) visitors) + wanted
   pub row : IsServedRow alone before.queue after.queue visitors
   pub doors : 0 < r.doors → Rose before.faults after.faults
-  pub whole : (Rose before.faults after.faults → ⊥) → r.memory ≡ 0 → IfSome before.queue (λ b. r.visitors ≡ min quota (length b.waiting))
+  pub sound : r.doors ≡ 0 → after.faults ≡ before.faults
   pub later : before.faults ≤ after.faults
-  pub few : r.visitors + r.doors ≤ quota
-  pub turns : IfSome before.queue (λ b. (r.visitors ≡ length b.waiting) ⊎ (quota ≤ r.visitors + r.doors + r.memory))
+  pub few : r.visitors + r.doors + wanted ≤ quota
+  pub turns : IfSome before.queue (λ b. (r.visitors ≡ length b.waiting) ⊎ (r.visitors + r.doors + wanted ≡ quota))
 
 -- what became of a door, and its worker's report
 pub record Gone : Type 0 where
@@ -79,3 +80,7 @@ pub record AreServed (alone : Alone) (quota : ℕ) (before after : List Seen) (r
 -- memory was wanting before the workers began: the doors are as they were
 abbrev pub AreLeft : List Seen → List Seen → Report → Type 0
 AreLeft before after r = (after ≡ before) × IsUnserved r
+
+-- what the report of `serve_doors` says of the doors
+abbrev pub AreReported : Alone → ℕ → List Seen → List Seen → Report → Type 0
+AreReported alone quota before after r = AreServed alone quota before after r ⊎ AreLeft before after r

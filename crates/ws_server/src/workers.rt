@@ -1,12 +1,12 @@
 // Workers that serve.
-ghost use Rattle.std.specs.Prelude.{◌≡◌, ◌<◌, ◌^◌, ◌⊎◌, ℕ, false, All, List, Some, length, map, slice_index_or, vec_len};
+ghost use Rattle.std.specs.Prelude.{◌≡◌, ◌<◌, ◌^◌, ℕ, false, All, List, Some, length, map, slice_index_or, vec_len};
 ghost use Rattle.link_io.specs.Links.{Item, fresh};
 ghost use Rattle.link_io.specs.Outside.{Rose};
 ghost use Rattle.link_io.specs.Porches.{seen};
 ghost use Rattle.py_tree.specs.View.{view_cells};
 ghost use Rattle.visit_meaning.specs.Runnable.{Runnable};
 ghost use Rattle.ws_server.specs.Reports.{IsBounded, IsNew};
-ghost use Rattle.ws_server.specs.Shares.{AreLeft, AreServed, IsShare};
+ghost use Rattle.ws_server.specs.Shares.{AreReported, IsShare};
 ghost use Rattle.ws_server.specs.Visitors.{IsEnded, alone_in};
 
 use crate::report::Report;
@@ -169,10 +169,8 @@ pub fn serve_doors<R: Threads + Wait + Sync, D: Door + Send, G: Gate>(
     requires runnable { Runnable (view_cells notebook.now) }
     requires out { All (λ d. D.out d ≡ false) doors.old.items }
     requires few { vec_len doors.old < 2 ^ 32 }
-    ensures served { AreServed (alone_in (view_cells notebook.now) budget) quota
+    ensures served { AreReported (alone_in (view_cells notebook.now) budget) quota
         (map (λ d. seen (D.queue d) (D.faults d)) doors.old.items)
-        (map (λ d. seen (D.queue d) (D.faults d)) doors.new.items) result
-        ⊎ AreLeft (map (λ d. seen (D.queue d) (D.faults d)) doors.old.items)
         (map (λ d. seen (D.queue d) (D.faults d)) doors.new.items) result }
     ensures out { All (λ d. D.out d ≡ false) doors.new.items }
 {

@@ -23,7 +23,7 @@ returns-clause-served g c =
       unused = All-map IsNewDoor (λ d. seen (g.P.Way.Door.queue d) (g.P.Way.Door.faults d)) given
           (All-weaker (λ d. (g.P.Way.Door.faults d ≡ 0) × (g.P.Way.Door.out d ≡ false) × IsUnvisited (g.P.Way.Door.queue d))
           (λ d. IsNewDoor (seen (g.P.Way.Door.queue d) (g.P.Way.Door.faults d))) (λ d new. (new.0, new.2)) given c.in_ok-doors.ensures.new);
-      stock = stock_after (g.P.Porch.told c.args.porch.now) (g.P.Porch.told c.doors.new.self) (g.P.Porch.told c.back.new.self) _ _
+      stock = stock_after (g.P.Porch.told c.args.porch.now) (g.P.Porch.told c.doors.new.self) (g.P.Porch.told c.back.new.self) c.args.service.port _ _
           c.in_ok-doors.ensures.given c.back.ensures.taken;
       report = c.serve_doors-report.ensures.served;
       fault = λ fail. rose_since before between last c.doors.ensures.later

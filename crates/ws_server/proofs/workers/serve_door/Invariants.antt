@@ -1,5 +1,5 @@
 -- the visitors so far were served, and each fault of the door was counted
-use Rattle.std.proofs.Common.{◌≡◌, ◌≤◌, ◌<◌, ◌+◌, false}
+use Rattle.std.proofs.Common.{◌≡◌, ◌≤◌, ◌<◌, false}
 use Rattle.link_io.specs.Outside.{Rose}
 use Rattle.py_tree.specs.View.{view_cells}
 use Rattle.ws_server.proofs.Shares.{IsPart}
@@ -11,6 +11,5 @@ invariant-loop-turn g l =
     (g.D.Door.out l.worker.door ≡ false)
     × IsPart (alone_in (view_cells l.notebook) l.budget) (g.D.Door.queue l.fn.worker.door) (g.D.Door.queue l.worker.door) l.worker.report l.turn
     × (g.D.Door.faults l.fn.worker.door ≤ g.D.Door.faults l.worker.door)
-    × (l.worker.report.visitors + l.worker.report.doors ≤ l.turn)
     × (0 < l.worker.report.doors → Rose (g.D.Door.faults l.fn.worker.door) (g.D.Door.faults l.worker.door))
-    × (l.turn ≤ l.worker.report.visitors + l.worker.report.doors + l.worker.report.memory)
+    × (l.worker.report.doors ≡ 0 → g.D.Door.faults l.worker.door ≡ g.D.Door.faults l.fn.worker.door)
