@@ -19,11 +19,14 @@ pub fn worked_words()
     ensures all { service_of (codes "run" ∷ codes "nb.py" ∷ codes "--visitors=1" ∷ codes "--port=65535" ∷ codes "--workers=64" ∷ [])
         ≡ Some (record { file = codes "nb.py"; port = 65535; workers = 64; visitors = 1 }) }
     ensures no_port { service_of (codes "run" ∷ codes "nb.py" ∷ codes "--workers=2" ∷ []) ≡ None }
-    ensures twice { service_of (codes "run" ∷ codes "nb.py" ∷ codes "--port=80" ∷ codes "--port=80" ∷ []) ≡ None }
-    ensures zero { service_of (codes "run" ∷ codes "nb.py" ∷ codes "--port=080" ∷ []) ≡ None }
-    ensures none { service_of (codes "run" ∷ codes "nb.py" ∷ codes "--port=0" ∷ []) ≡ None }
-    ensures great { service_of (codes "run" ∷ codes "nb.py" ∷ codes "--port=65536" ∷ []) ≡ None }
-    ensures apart { service_of (codes "run" ∷ codes "nb.py" ∷ codes "--port" ∷ codes "80" ∷ []) ≡ None }
-    ensures unknown { service_of (codes "run" ∷ codes "nb.py" ∷ codes "--port=80" ∷ codes "--slots=8" ∷ []) ≡ None }
-    ensures first { service_of (codes "run" ∷ codes "--port=80" ∷ codes "nb.py" ∷ []) ≡ None }
+    ensures two_ports { service_of (codes "run" ∷ codes "nb.py" ∷ codes "--port=80" ∷ codes "--port=80" ∷ []) ≡ None }
+    ensures no_digits { service_of (codes "run" ∷ codes "nb.py" ∷ codes "--port=" ∷ []) ≡ None }
+    ensures leading_zero { service_of (codes "run" ∷ codes "nb.py" ∷ codes "--port=080" ∷ []) ≡ None }
+    ensures port_of_nothing { service_of (codes "run" ∷ codes "nb.py" ∷ codes "--port=0" ∷ []) ≡ None }
+    ensures high_port { service_of (codes "run" ∷ codes "nb.py" ∷ codes "--port=65536" ∷ []) ≡ None }
+    ensures many_workers { service_of (codes "run" ∷ codes "nb.py" ∷ codes "--port=80" ∷ codes "--workers=65" ∷ []) ≡ None }
+    ensures many_visitors { service_of (codes "run" ∷ codes "nb.py" ∷ codes "--port=80" ∷ codes "--visitors=1000000001" ∷ []) ≡ None }
+    ensures value_apart { service_of (codes "run" ∷ codes "nb.py" ∷ codes "--port" ∷ codes "80" ∷ []) ≡ None }
+    ensures unknown_option { service_of (codes "run" ∷ codes "nb.py" ∷ codes "--port=80" ∷ codes "--slots=8" ∷ []) ≡ None }
+    ensures option_first { service_of (codes "run" ∷ codes "--port=80" ∷ codes "nb.py" ∷ []) ≡ None }
 {}

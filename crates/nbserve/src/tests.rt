@@ -1,10 +1,10 @@
-// Runs of the program over files of which a call fails, a sink that is full, and a porch. The texts that are wanted are written by hand.
-ghost use Rattle.std.specs.Prelude.{◌≡◌, ◌<◌, IfOk};
-ghost use Rattle.link_io.specs.MemDoors.{IsNewDoor};
-ghost use Rattle.link_io.specs.MemLinks.{IsFresh};
+// Runs of the program over files of which a call fails, and a sink that is full. The texts that are wanted are written by hand.
+ghost use Rattle.std.specs.Prelude.{◌≡◌, ◌<◌};
+
+mod serving;
 
 use crate::top::run_top;
-use link_io::{MemDoor, MemFile, MemFiles, MemLink, MemPorch, MemSink};
+use link_io::{MemFile, MemFiles, MemPorch, MemSink};
 use py_eval::Steps;
 use std::alloc::{AllocError, Global};
 use std::marker::Brand;
@@ -15,17 +15,17 @@ use std::thread::Threads;
 
 // What a run of the program answered and wrote.
 #[derive(Drop)]
-struct Answer {
-    status: u8,
-    written: Vec<u8>,
+pub struct Answer {
+    pub status: u8,
+    pub written: Vec<u8>,
 }
 
 // A run: its words, which calls of the files fail, and how many bytes the sink has room for.
 #[derive(Clone, Copy)]
-struct Case<'a> {
-    words: &'a [&'a str],
-    failing: &'a [u64],
-    room: usize,
+pub struct Case<'a> {
+    pub words: &'a [&'a str],
+    pub failing: &'a [u64],
+    pub room: usize,
 }
 
 // The file `nb.py`.
@@ -104,32 +104,13 @@ fn run<R: Threads + Wait + Sync, L: Ledger>(
     })
 }
 
-fn answered<R: Threads + Wait + Sync>(
+pub fn answered<R: Threads + Wait + Sync>(
     rt: &R,
     alloc: Global,
     case: Case<'_>,
     porch: &mut MemPorch,
 ) -> Result<Answer, AllocError> {
     run::<R, Brand>(rt, alloc, case, porch, Blank::new(1))
-}
-
-// A visitor who opens the notebook and sends a close message.
-fn opener(alloc: Global) -> Result<MemLink, AllocError>
-    ensures { IfOk result (λ link. IsFresh link) }
-{
-    let open = Vec::from_slice(alloc, b"{\"open\":{}}")?;
-    let close = Vec::from_slice(alloc, b"{\"close\":{}}")?;
-    Ok(MemLink::new(alloc, Vec::from_array(alloc, [Some(open), Some(close)])?))
-}
-
-// A porch with one door, to which two such visitors come; the calls of these numbers let nobody in.
-fn one_door(alloc: Global, failing: &[u64]) -> Result<MemPorch, AllocError> {
-    let mut door = MemDoor::new(
-        alloc,
-        Vec::from_array(alloc, [opener(alloc)?, opener(alloc)?])?,
-    )?;
-    door.failing = Vec::from_slice(alloc, failing)?;
-    Ok(MemPorch::new(alloc, Vec::from_array(alloc, [door])?))
 }
 
 const ONCE: &[&str] = &["once", "nb.py"];
@@ -157,86 +138,10 @@ fn tells_faults(rt: HostRuntime) -> Result<(), Fail> {
             failing,
             room,
         };
-        let answer = answered(&rt, rt.alloc(), case, &mut one_door(rt.alloc(), &[])?)?;
+        let mut porch = MemPorch::new(rt.alloc(), Vec::new(rt.alloc()));
+        let answer = answered(&rt, rt.alloc(), case, &mut porch)?;
         assert_eq!(rt; answer.status, status);
         assert_eq!(rt; answer.written.as_slice(), wanted);
-    }
-    Ok(())
-}
-
-// How many texts each visitor was sent who was parted at the doors that came back.
-fn texts_sent(alloc: Global, porch: &MemPorch) -> Result<Vec<usize>, AllocError> {
-    let mut counts = Vec::new(alloc);
-    for door in porch.returned() {
-        for link in door.parted() {
-            counts.push(link.sent.len())?;
-        }
-    }
-    Ok(counts)
-}
-
-const ONE_WORKER: &str = "--workers=1";
-
-#[test]
-fn serves_the_visitors_of_a_porch(rt: HostRuntime) -> Result<(), Fail> {
-    let alloc = rt.alloc();
-    let all = 1_000_000;
-    let cases: [(&[&str], &[u64], usize, u8, &[u8], &[usize]); 5] = [
-        (
-            &["run", "nb.py", "--port=80", ONE_WORKER],
-            &[],
-            all,
-            0,
-            b"visitors 2 closed 2 links 0 memory 0 many 0 doors 0\n",
-            &[4, 4],
-        ),
-        (
-            &["run", "nb.py", "--visitors=1", ONE_WORKER, "--port=80"],
-            &[],
-            all,
-            0,
-            b"visitors 1 closed 1 links 0 memory 0 many 0 doors 0\n",
-            &[4],
-        ),
-        (
-            &["run", "nb.py", ONE_WORKER, "--port=80"],
-            &[1],
-            all,
-            7,
-            b"visitors 2 closed 2 links 0 memory 0 many 0 doors 1\n",
-            &[4, 4],
-        ),
-        (
-            &["run", "nb.py", "--port=80", "--workers=2"],
-            &[],
-            all,
-            7,
-            b"door fault\n",
-            &[],
-        ),
-        (
-            &["run", "nb.py", "--port=80", ONE_WORKER],
-            &[1],
-            5,
-            4,
-            b"visit",
-            &[4, 4],
-        ),
-    ];
-    for (words, refusing, room, status, wanted, texts) in cases {
-        let case = Case {
-            words,
-            failing: &[],
-            room,
-        };
-        let mut porch = one_door(alloc, refusing)?;
-        let answer = answered(&rt, alloc, case, &mut porch)?;
-        assert_eq!(rt; answer.status, status);
-        assert_eq!(rt; answer.written.as_slice(), wanted);
-        assert_eq!(rt; texts_sent(alloc, &porch)?.as_slice(), texts);
-        if status == 0 {
-            assert_eq!(rt; porch.port(), Some(80));
-        }
     }
     Ok(())
 }
