@@ -3,14 +3,14 @@
 
 A visitor comes again after a tenth of the sets that are the visitor's. It prints the memory that is resident at the start, in the middle
 and at the end, and the report. Then one visitor sends messages until the server has answered 1,000,000 and parts. The status is 1 where an
-answer, a report or a status isn't the one that was worked out here.
+answer, a report or a status isn't the one that was worked out here, or where the second half took more than GROWN KiB.
 """
 import multiprocessing, sys, time
 
 from trips import Trips
 from visitor import CLOSE, same, serving
 
-VISITORS, TIMES, CHUNK, MOST = 4, 10, 1000, 1_000_000
+VISITORS, TIMES, CHUNK, MOST, GROWN = 4, 10, 1000, 1_000_000, 1024
 REPORT = "visitors {} closed {} links 0 memory 0 many {} doors 0\n"
 
 
@@ -39,6 +39,7 @@ def many_visitors(program, sets):
                 middle = last
                 print(f"{middle} KiB after {sum(done)} sets", flush=True)
             time.sleep(0.05)
+        same(True, last <= middle + GROWN or (middle, last))
         print(f"{last} KiB at the end, after {sum(done)} sets in {time.monotonic() - start:.0f} seconds", flush=True)
         same([0] * VISITORS, [it.exitcode for it in visits])
         same(each // TIMES // CHUNK * CHUNK * TIMES * VISITORS, sum(done))

@@ -40,7 +40,7 @@ fn gives_visitors_in_order(rt: HostRuntime) -> Result<(), Fail> {
     first.failing_sends.push(2)?;
     assert!(rt; gives(&mut first, b"one"));
     assert_eq!(rt;
-        (first.send(b"yes", false), first.send(b"no", false)),
+        (first.send(b"yes"), first.send(b"no")),
         (Sent::Done, Sent::Failed)
     );
     door.part(first);

@@ -134,7 +134,7 @@ fn answers_pings_and_sends_texts(rt: HostRuntime) -> Result<(), Fail> {
     assert!(rt; gives(&mut link, b"Hello"));
     assert!(rt; reads(&mut client, PONG));
     assert_eq!(rt;
-        (link.send(b"Hello", false), link.send(b"\xff", false)),
+        (link.send(b"Hello"), link.send(b"\xff")),
         (Sent::Done, Sent::Failed)
     );
     assert!(rt; reads(&mut client, b"\x81\x05Hello"));
@@ -146,17 +146,15 @@ fn answers_pings_and_sends_texts(rt: HostRuntime) -> Result<(), Fail> {
 fn lets_texts_wait(rt: HostRuntime) -> Result<(), Fail> {
     let (mut link, mut client) = meet(rt).ok_or("nobody comes")?;
     client.set_read_timeout(Some(Duration::from_millis(50)))?;
-    assert_eq!(rt; link.send(b"Hello", true), Sent::Done);
+    assert_eq!(rt; link.send(b"Hello"), Sent::Done);
+    assert_eq!(rt; link.send(b"you"), Sent::Done);
     assert!(rt; client.read(&mut [0; 1]).is_err());
-    assert_eq!(rt; link.send(b"you", false), Sent::Done);
-    assert!(rt; reads(&mut client, b"\x81\x05Hello\x81\x03you"));
 
     // What waits goes out before a message is waited for, and before a close frame.
     client.write_all(HELLO)?;
-    assert_eq!(rt; link.send(b"who", true), Sent::Done);
     assert!(rt; gives(&mut link, b"Hello"));
-    assert!(rt; reads(&mut client, b"\x81\x03who"));
-    assert_eq!(rt; link.send(b"bye", true), Sent::Done);
+    assert!(rt; reads(&mut client, b"\x81\x05Hello\x81\x03you"));
+    assert_eq!(rt; link.send(b"bye"), Sent::Done);
     link.close();
     assert!(rt; reads(&mut client, b"\x81\x03bye\x88\x00"));
     Ok(())

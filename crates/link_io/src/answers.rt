@@ -18,7 +18,7 @@ pub enum Received {
 /// What became of a text that was to be sent.
 #[derive(Clone, Copy, Debug, PartialEq, Eq)]
 pub enum Sent {
-    /// It was sent.
+    /// It was sent, or waits to be.
     Done,
     /// The link failed.
     Failed,

@@ -20,9 +20,9 @@ pub trait Link: Drop {
         ensures later { faults self.old ≤ faults self.new }
         ensures failed { result ≡ Received.Failed → Rose (faults self.old) (faults self.new) };
 
-    /// Sends a text. Where `more` is true it may wait for the next one, and else it goes out at once, behind those that wait. Where texts
-    /// are told, it is appended at `Done`; `Failed` and `Memory` send nothing of it. No call takes a message.
-    fn send(&mut self, text: &[u8], more: bool) -> Sent
+    /// Sends a text. It may wait until the next message is asked for, so that the texts of an answer go out together. Where texts are told, it
+    /// is appended at `Done`; `Failed` and `Memory` send nothing of it. No call takes a message.
+    fn send(&mut self, text: &[u8]) -> Sent
         ensures sent { Sends (told self.old) (told self.new) text.now result }
         ensures later { faults self.old ≤ faults self.new }
         ensures failed { result ≡ Sent.Failed → Rose (faults self.old) (faults self.new) };

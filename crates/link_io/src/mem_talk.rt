@@ -58,7 +58,7 @@ impl Link for MemLink {
         }
     }
 
-    fn send(&mut self, text: &[u8], _more: bool) -> Sent {
+    fn send(&mut self, text: &[u8]) -> Sent {
         self.sends = self.sends.saturating_add(1);
         if self.failing_sends.contains(&self.sends) {
             self.faults = self.faults.saturating_add(1);

@@ -46,10 +46,13 @@ impl WsLink {
         }
     }
 
-    // What one read gives; none at a ping or a pong. A failure isn't counted yet.
+    // What one read gives; none at a ping or a pong. What waits to be sent goes out first. A failure isn't counted yet.
     fn read_one(&mut self) -> Option<Received>
         ensures { self.new.faults ≡ self.old.faults }
     {
+        if let Err(error) = self.socket.flush() {
+            return Some(stopped_by(&error));
+        }
         match self.socket.read() {
             Ok(Message::Text(text)) => match Vec::from_slice(self.alloc, text.as_str().as_bytes()) {
                 Ok(bytes) => Some(Received::Text(bytes)),
@@ -62,10 +65,17 @@ impl WsLink {
                 let _ = self.socket.flush();
                 Some(Received::End)
             }
-            Err(Error::ConnectionClosed) => Some(Received::End),
-            Err(Error::OutOfMemory) => Some(Received::Memory),
-            Err(_) => Some(Received::Failed),
+            Err(error) => Some(stopped_by(&error)),
         }
+    }
+}
+
+// What an error of a socket gives in place of a message.
+fn stopped_by(error: &Error) -> Received {
+    match error {
+        Error::ConnectionClosed => Received::End,
+        Error::OutOfMemory => Received::Memory,
+        _ => Received::Failed,
     }
 }
 
@@ -86,7 +96,7 @@ impl Link for WsLink {
         Received::Failed
     }
 
-    fn send(&mut self, text: &[u8], more: bool) -> Sent {
+    fn send(&mut self, text: &[u8]) -> Sent {
         let Ok(words) = std::str::from_utf8(text) else {
             self.faults = self.faults.saturating_add(1);
             return Sent::Failed;
@@ -94,12 +104,7 @@ impl Link for WsLink {
         let Ok(message) = Message::text(self.alloc, words) else {
             return Sent::Memory;
         };
-        let put = if more {
-            self.socket.write(message)
-        } else {
-            self.socket.send(message)
-        };
-        match put {
+        match self.socket.write(message) {
             Ok(()) => Sent::Done,
             Err(Error::OutOfMemory) => Sent::Memory,
             Err(_) => {

@@ -38,7 +38,7 @@ none_counted alone quota (g ∷ gone) shares sound =
     let sound_first = All-head (λ (d : Seen). d.faults ≡ 0) g.after (map (λ (h : Gone). h.after) gone) sound in
     let sound_rest = All-tail (λ (d : Seen). d.faults ≡ 0) g.after (map (λ (h : Gone). h.after) gone) sound in
     let first : g.report.doors ≡ 0 = not_positive g.report.doors
-    (λ p. let rose : min (g.before.faults + 1) (2 ^ 64 - 1) ≤ g.after.faults = shares.0.doors p in omega (arith, rose, sound_first)) in
+    (λ p. let rose : min (g.before.faults + g.report.doors) (2 ^ 64 - 1) ≤ g.after.faults = shares.0.doors in omega (arith, rose, sound_first, p)) in
     let rest = none_counted alone quota gone shares.1 sound_rest in
     sum_by-cons (λ (r : Report). r.doors) g.report (map (λ (h : Gone). h.report) gone) ∙ omega (arith, first, rest)
 
@@ -119,7 +119,19 @@ ended_whole (ended.whole is took) done = (sym is ∙ done, took)
 ended_whole (ended.cut is why less) done = absurd (omega (arith, is, done))
 ended_whole (ended.wanting is none) done = absurd (omega (arith, is, done))
 
-report_statuses : (r : Report) → (report_status r ≡ 0) ⊎ (report_status r ≡ 7)
+-- what is written at another status than 1 and 3 ends at none of these
+pub asked_for_doors : {X : Type 0} {come status : ℕ} {text : List ℕ} {before now : Option (List ℕ)} {unwritten : Type 0} → Ended come text status before now unwritten
+    → (come ≡ 0) ⊎ (come ≡ 7) → (status ≡ 1) ⊎ (status ≡ 3) → X
+asked_for_doors (ended.whole is took) (inl done) (inl one) = absurd (omega (arith, is, done, one))
+asked_for_doors (ended.whole is took) (inl done) (inr three) = absurd (omega (arith, is, done, three))
+asked_for_doors (ended.whole is took) (inr seven) (inl one) = absurd (omega (arith, is, seven, one))
+asked_for_doors (ended.whole is took) (inr seven) (inr three) = absurd (omega (arith, is, seven, three))
+asked_for_doors (ended.cut is why less) come (inl one) = absurd (omega (arith, is, one))
+asked_for_doors (ended.cut is why less) come (inr three) = absurd (omega (arith, is, three))
+asked_for_doors (ended.wanting is none) come (inl one) = absurd (omega (arith, is, one))
+asked_for_doors (ended.wanting is none) come (inr three) = absurd (omega (arith, is, three))
+
+pub report_statuses : (r : Report) → (report_status r ≡ 0) ⊎ (report_status r ≡ 7)
 report_statuses r = helper (nat_lt 0 r.doors) where
   helper : (b : Bool) → (◌≡◌ {A = ℕ} (cond b 7 0) 0) ⊎ (◌≡◌ {A = ℕ} (cond b 7 0) 7)
   helper true = inr refl

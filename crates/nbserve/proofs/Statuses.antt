@@ -4,10 +4,16 @@ use Rattle.std.specs.Prelude.{Option, Some, None}
 use Rattle.std.proofs.lemmas.Option.{same_Some}
 use Rattle.command_meaning.specs.Services.{Service, service_of}
 use Rattle.link_io.specs.Porches.{Stock}
+use Rattle.program_meaning.specs.Program.{usual_budget}
+use Rattle.py_tree.specs.Trees.{Cell}
+use Rattle.ws_server.proofs.Reported.{reported}
+use Rattle.ws_server.specs.Told.{Tells}
+use Rattle.ws_server.specs.Visitors.{alone_in}
+use Rattle.ws_server.specs.declared.report.Report.{Report}
 use Rattle.nbserve.proofs.Output.{runs_show}
 use Rattle.nbserve.proofs.Service.{Cause, cause_accepted, cause_door, cause_of, cause_range, cause_read, cause_refused, cause_write, serves_fault, serves_report}
 use Rattle.nbserve.specs.Output.{RunsTo}
-use Rattle.nbserve.specs.Service.{ServesTo}
+use Rattle.nbserve.specs.Service.{IsServed, ServesTo}
 use Rattle.nbserve.specs.Top as top
 use Rattle.nbserve.specs.Top.{ComesTo, TopShows}
 
@@ -17,6 +23,10 @@ other_words words s none some = let no : None ≡ Some s = sym none ∙ some in 
 module _ (holds : List ℕ → Option (Option (List ℕ))) (unread failed unwritten : Type 0) (words : List (List ℕ)) (status : ℕ) (before now : Option (List ℕ)) (stock stock_now : Option Stock) (count count_after : ℕ) where
   abbrev Shown : Type 0
   Shown = TopShows holds unread failed unwritten words status before now stock stock_now count count_after
+
+  report_tells : (s : Service) (nb : List Cell) (r : Report) (is : IsServed nb s stock stock_now failed r)
+      → Tells (alone_in nb usual_budget) s.visitors is.doors is.returned r
+  report_tells s nb r is = reported (alone_in nb usual_budget) s.visitors is.doors is.returned r is.report
 
   -- words that ask for no service
   ran_shows : service_of words ≡ None → RunsTo holds unread unwritten words status before now count count_after → Shown
@@ -34,6 +44,7 @@ module _ (holds : List ℕ → Option (Option (List ℕ))) (unread failed unwrit
         complete = λ s all nb some. absurd (other_words words s none some);
         report = λ s all nb some. absurd (other_words words s none some);
         fault = λ s all nb some. absurd (other_words words s none some);
+        tells = report_tells;
       }
 
   -- words that ask for a service
@@ -83,6 +94,7 @@ module _ (holds : List ℕ → Option (Option (List ℕ))) (unread failed unwrit
           serves_report holds unread failed unwritten s status before now stock stock_now all told nb ok (serves_for s some);
       fault = λ s all nb some told ok.
           serves_fault holds unread failed unwritten s status before now stock stock_now all told nb ok (serves_for s some);
+      tells = report_tells;
     }
 
   pub comes_shows : ComesTo holds unread failed unwritten words status before now stock stock_now count count_after → Shown

@@ -4,8 +4,10 @@ use Rattle.command_meaning.specs.Commands.{command_of}
 use Rattle.command_meaning.specs.Services.{Service, service_of}
 use Rattle.link_io.specs.Outside.{Took}
 use Rattle.link_io.specs.Porches.{Seen, Stays, Stock}
-use Rattle.program_meaning.specs.Program.{IsAccepted, IsRefused, read_of}
+use Rattle.program_meaning.specs.Program.{IsAccepted, IsRefused, read_of, usual_budget}
 use Rattle.py_tree.specs.Trees.{Cell}
+use Rattle.ws_server.specs.Told.{Tells}
+use Rattle.ws_server.specs.Visitors.{alone_in}
 use Rattle.ws_server.specs.declared.report.Report.{Report}
 use Rattle.nbserve.specs.Output.{RunsTo}
 use Rattle.nbserve.specs.Service.{IsServed, ServesTo, report_line}
@@ -30,6 +32,7 @@ pub data ComesTo (holds : List ℕ → Option (Option (List ℕ))) (unread faile
 -- complete: and where no count of faults rises or stands at its end, it is, or memory is wanting.
 -- report: at 0 the visitors were served, no door has failed, and the report was written and nothing else;
 -- fault: at 7 too, and the report counts a door's fault, or there were no doors, which was written.
+-- tells: what the report of a service tells of its doors and their visitors.
 pub record TopShows (holds : List ℕ → Option (Option (List ℕ))) (unread failed unwritten : Type 0) (words : List (List ℕ)) (status : ℕ) (before now : Option (List ℕ)) (stock stock_now : Option Stock) (count count_after : ℕ) : Type 0 where
   pub range : status ≤ 7
   pub read : status ≡ 3 → unread
@@ -48,3 +51,4 @@ pub record TopShows (holds : List ℕ → Option (Option (List ℕ))) (unread fa
   pub fault : (s : Service) (all : List ℕ) (nb : List Cell) → service_of words ≡ Some s → holds s.file ≡ Some (Some all) → IsAccepted (read_of all) nb
       → status ≡ 7 → ((r : Report) × IsServed nb s stock stock_now failed r × (0 < r.doors) × Took before now (report_line r))
       ⊎ (Stays stock stock_now × Took before now (codes "door fault\n"))
+  pub tells : (s : Service) (nb : List Cell) (r : Report) (is : IsServed nb s stock stock_now failed r) → Tells (alone_in nb usual_budget) s.visitors is.doors is.returned r

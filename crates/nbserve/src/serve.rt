@@ -1,5 +1,5 @@
 // Notebooks that are served.
-ghost use Rattle.std.specs.Prelude.{◌≡◌, ◌≤◌, ℕ, List, IfOk, OnErr, string_bytes};
+ghost use Rattle.std.specs.Prelude.{◌≡◌, ◌⊎◌, ◌≤◌, ℕ, List, IfOk, OnErr, string_bytes};
 ghost use Rattle.cli_words.specs.Service.{asked};
 ghost use Rattle.link_io.specs.Outside.{Rose};
 ghost use Rattle.link_io.specs.Porches.{Stays};
@@ -99,6 +99,8 @@ pub fn serve<R: Threads + Wait + Sync, F: Files, O: Sink, P: Porch>(
     ensures later { F.faults files.old ≤ F.faults files.new }
     ensures writes_later { O.faults out.old ≤ O.faults out.new }
     ensures doors_later { P.faults porch.old ≤ P.faults porch.new }
+    // The porch isn't asked for doors where the notebook isn't loaded.
+    ensures unasked { (result ≡ 1) ⊎ (result ≡ 3) → porch.new ≡ porch.old }
 {
     let notebook = match notebook_in(alloc, files, service.file) {
         Ok(notebook) => notebook,

@@ -1,5 +1,5 @@
 // The top call.
-ghost use Rattle.std.specs.Prelude.{◌≡◌, ℕ, ◌≤◌, List, map, string_bytes, None};
+ghost use Rattle.std.specs.Prelude.{◌≡◌, ◌⊎◌, ℕ, ◌≤◌, List, map, string_bytes, None};
 ghost use Rattle.command_meaning.specs.Commands.{command_of};
 ghost use Rattle.command_meaning.specs.Services.{service_of};
 ghost use Rattle.link_io.specs.Outside.{Rose};
@@ -35,13 +35,14 @@ pub fn run_top<R: Threads + Wait + Sync, F: Files, O: Sink, P: Porch, L: Ledger>
         (map string_bytes words.now) result (O.taken out.old) (O.taken out.new)
         (P.told porch.old) (P.told porch.new) steps.old steps.new }
 
-    // What names of files stand for stays, and no count of faults falls. Words that ask for no service leave the porch, and such that are no
-    // form the files.
+    // What names of files stand for stays, and no count of faults falls. Words that ask for no service and notebooks that aren't loaded leave the
+    // porch, and words that are no form the files.
     ensures same { (other : List ℕ) → F.holds files.new other ≡ F.holds files.old other }
     ensures later { F.faults files.old ≤ F.faults files.new }
     ensures writes_later { O.faults out.old ≤ O.faults out.new }
     ensures doors_later { P.faults porch.old ≤ P.faults porch.new }
     ensures unvisited { service_of (map string_bytes words.now) ≡ None → porch.new ≡ porch.old }
+    ensures unasked { (result ≡ 1) ⊎ (result ≡ 3) → porch.new ≡ porch.old }
     ensures untouched { command_of (map string_bytes words.now) ≡ None → service_of (map string_bytes words.now) ≡ None
         → files.new ≡ files.old }
 

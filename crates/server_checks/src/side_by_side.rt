@@ -131,7 +131,7 @@ impl Link for Talker<'_> {
         Received::End
     }
 
-    fn send(&mut self, _text: &[u8], _more: bool) -> Sent {
+    fn send(&mut self, _text: &[u8]) -> Sent {
         self.board
             .own(self.worker)
             .was_sent

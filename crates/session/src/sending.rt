@@ -14,13 +14,12 @@ use py_eval::Steps;
 use std::alloc::Global;
 use std::sync::ledger::Ledger;
 
-// Sends a frame as one text, which is made in `text`; whether more frames of the answer are to come behind it, the caller says.
+// Sends a frame as one text, which is made in `text`.
 fn send_frame<K: Link>(
     alloc: Global,
     frame: Frame,
     text: &mut Vec<u8>,
     link: &mut K,
-    more: bool,
 ) -> Result<(), Unsent>
     ensures sent { OnOk result
         (Talked (K.told link.old) (K.told link.new) [] (frame_text frame ∷ [])) }
@@ -31,14 +30,14 @@ fn send_frame<K: Link>(
 {
     text.clear();
     push_frame(alloc, text, &frame)?;
-    match link.send(text.as_slice(), more) {
+    match link.send(text.as_slice()) {
         Sent::Done => Ok(()),
         Sent::Failed => Err(Unsent::Failed),
         Sent::Memory => Err(Unsent::Memory),
     }
 }
 
-/// Sends the frames that are to come. Each is given to the link when its step gives it, and the link may let them wait for the last.
+/// Sends the frames that are to come, each when its step gives it.
 pub fn drain<'n, K: Link, L: Ledger>(
     alloc: Global,
     kernel: &mut Kernel<'n>,
@@ -55,8 +54,7 @@ pub fn drain<'n, K: Link, L: Ledger>(
         (λ why. why ≡ Unsent.Failed → Rose (K.faults link.old) (K.faults link.new)) }
 {
     while let Stepped::Frame(frame) = kernel.step(alloc, steps)? {
-        let more = kernel.pending() > 0;
-        send_frame(alloc, frame, text, link, more)?;
+        send_frame(alloc, frame, text, link)?;
     }
     Ok(())
 }

@@ -162,7 +162,7 @@ impl Link for Poor {
         Received::Other
     }
 
-    fn send(&mut self, _text: &[u8], _more: bool) -> Sent {
+    fn send(&mut self, _text: &[u8]) -> Sent {
         self.sends = self.sends.saturating_add(1);
         if self.sends == 2 {
             Sent::Memory

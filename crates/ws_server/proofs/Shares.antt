@@ -218,8 +218,14 @@ part_ends {alone = alone} {before = before} {now = now} after p rests = record {
 pub rose_some : (a b : ℕ) → a ≡ 0 → Rose a b → 0 < b
 rose_some a b z r = let s : min (a + 1) (2 ^ 64 - 1) ≤ b = r in omega (arith, z, s)
 
-pub rose_later : (a b c : ℕ) → Rose a b → b ≤ c → Rose a c
-rose_later a b c r h = let s : min (a + 1) (2 ^ 64 - 1) ≤ b = r in omega (arith, s, h)
+-- one fault more is counted, and the count of the door rose
+pub doors_more : (n doors before after more : ℕ) → min (n + doors) (2 ^ 64 - 1) ≤ before → Rose before after → more ≤ doors + 1
+    → min (n + more) (2 ^ 64 - 1) ≤ after
+doors_more n doors before after more counted r one = let s : min (before + 1) (2 ^ 64 - 1) ≤ after = r in omega (arith, counted, s, one)
+
+-- where a fault is counted, the count of the door rose
+pub rose_of : (n doors after : ℕ) → min (n + doors) (2 ^ 64 - 1) ≤ after → 0 < doors → Rose n after
+rose_of n doors after counted some = let rose : min (n + 1) (2 ^ 64 - 1) ≤ after = omega (arith, counted, some) in rose
 
 pub part_bounded : {alone : Alone} {before now : Option Row} {r : Report} {turn : ℕ} → IsPart alone before now r turn → turn < 2 ^ 32 → IsBounded r
 part_bounded p few =
@@ -284,7 +290,7 @@ no_doors (suc n) h = absurd (h (omega arith))
 pub share_whole : {alone : Alone} {quota : ℕ} {before after : Seen} {r : Report} → IsShare alone quota before after r
     → (Rose before.faults after.faults → ⊥) → r.memory ≡ 0 → IfSome before.queue (λ b. r.visitors ≡ min quota (length b.waiting))
 share_whole {alone = alone} {quota = quota} {before = before} {after = after} {r = r} s quiet none =
-    let zero_doors = no_doors r.doors (λ some. quiet (s.doors some)) in
+    let zero_doors = no_doors r.doors (λ some. quiet (rose_of before.faults r.doors after.faults s.doors some)) in
     let memory = s.memory in
     let zero_wanted : s.wanted ≡ 0 = omega arith in
     let few = s.few in

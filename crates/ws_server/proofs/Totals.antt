@@ -8,7 +8,7 @@ use Rattle.std.specs.Prelude.{◌⊎◌, IfSome, Option, Some, sum_by}
 use Rattle.link_io.specs.Doors.{Row}
 use Rattle.link_io.specs.Porches.{Seen}
 use Rattle.session.specs.declared.ended.Ended.{Ended}
-use Rattle.ws_server.proofs.Shares.{share_whole}
+use Rattle.ws_server.proofs.Shares.{rose_of, share_whole}
 use Rattle.ws_server.specs.Reports.{Counts, IsSum, closed_in, links_in, many_in, memory_in}
 use Rattle.ws_server.specs.Shares.{AllFit, AreShares, Gone, IsServedRow, IsShare, Served, Visitor}
 use Rattle.ws_server.specs.Told.{AreTold, SomeRose, newly_parted, parted_in, waiting_in}
@@ -111,7 +111,7 @@ some_rose alone quota [] s some = absurd (omega (arith, some))
 some_rose alone quota (g ∷ gs) s some =
     let sum = sum_by-cons (λ (s : Report). s.doors) g.report (map (λ (g : Gone). g.report) gs) in
     elim (one_of g.report.doors (sum_by (λ (s : Report). s.doors) (map (λ (g : Gone). g.report) gs)) (omega (arith, some, sum))) [
-      | inl here ↦ inl (s.0.doors here)
+      | inl here ↦ inl (rose_of g.before.faults g.report.doors g.after.faults s.0.doors here)
       | inr later ↦ inr (some_rose alone quota gs s.1 later)
     ]
 

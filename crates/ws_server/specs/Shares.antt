@@ -1,8 +1,7 @@
 -- What a report tells of the visitors of doors.
-use Rattle.std.specs.Prelude.{◌≡◌, ◌⊎◌, ℕ, ◌+◌, ◌<◌, ◌≤◌, List, [], ◌∷◌, ◌++◌, length, map, Option, Some, None, IfSome, sum_by}
+use Rattle.std.specs.Prelude.{◌≡◌, ◌⊎◌, ℕ, ◌+◌, ◌-◌, ◌^◌, ◌<◌, ◌≤◌, min, List, [], ◌∷◌, ◌++◌, length, map, Option, Some, None, IfSome, sum_by}
 use Rattle.link_io.specs.Doors.{Parted, Row}
 use Rattle.link_io.specs.Links.{Item, Told}
-use Rattle.link_io.specs.Outside.{Rose}
 use Rattle.link_io.specs.Porches.{Seen}
 use Rattle.session.specs.declared.ended.Ended.{Ended}
 use Rattle.session.specs.declared.ended.Ended.TheVariants as ended
@@ -44,16 +43,17 @@ pub record Served (alone : Alone) (before now : Row) (vs : List Visitor) : Type 
 abbrev pub IsServedRow : Alone → Option Row → Option Row → List Visitor → Type 0
 IsServedRow alone before now vs = IfSome before (λ b. (row : Row) × (now ≡ Some row) × Served alone b row vs)
 
--- The share of a door in a report, whose worker accepted at most so often. Each accept was a visitor, who was served and is counted by the end of
--- the session, a fault of the door, or want of memory for one who would have come. The door's count rose where a fault is counted, and nowhere
--- else. Where the door tells its visitors, all who waited were served, or the accepts were used up.
+-- The share of a door in a report, whose worker accepts at most so often. Each visitor was served, and is counted by the end of the session; want of
+-- memory is that of sessions, and of visitors who would have come. Visitors, faults of the door and those who would have come are no more than the
+-- accepts; and where the door tells its visitors, all who waited were served, or the accepts were used up. By each fault that is counted the door's
+-- count rose, up to its end, and where none is counted it stayed.
 pub record IsShare (alone : Alone) (quota : ℕ) (before after : Seen) (r : Report) : Type 0 where
   pub visitors : List Visitor
   pub wanted : ℕ
   pub counts : Counts (map (λ (v : Visitor). v.end) visitors) r
   pub memory : r.memory ≡ sum_by memory_in (map (λ (v : Visitor). v.end) visitors) + wanted
   pub row : IsServedRow alone before.queue after.queue visitors
-  pub doors : 0 < r.doors → Rose before.faults after.faults
+  pub doors : min (before.faults + r.doors) (2 ^ 64 - 1) ≤ after.faults
   pub sound : r.doors ≡ 0 → after.faults ≡ before.faults
   pub later : before.faults ≤ after.faults
   pub few : r.visitors + r.doors + wanted ≤ quota

@@ -1,5 +1,5 @@
 -- What a report tells of the visitors who were newly parted, whichever of them ended how.
-use Rattle.std.specs.Prelude.{◌≡◌, ◌⊎◌, ℕ, ◌+◌, ◌≤◌, All, List, [], ◌∷◌, ◌++◌, drop, length, Option, Some, None}
+use Rattle.std.specs.Prelude.{◌≡◌, ◌⊎◌, ℕ, ◌+◌, ◌<◌, ◌≤◌, min, All, List, [], ◌∷◌, ◌++◌, drop, length, sum_by, Option, Some, None}
 use Rattle.link_io.specs.Doors.{Parted, Row}
 use Rattle.link_io.specs.Links.{Item, Told}
 use Rattle.link_io.specs.Outside.{Rose}
@@ -8,6 +8,7 @@ use Rattle.session.specs.Serving.{message_count_limit}
 use Rattle.session.specs.Talks.{close_text}
 use Rattle.session.specs.declared.ended.Ended.TheVariants as ended
 use Rattle.ws_server.specs.Visitors.{Alone, Ends}
+use Rattle.ws_server.specs.declared.report.Report.{Report}
 
 -- ---- doors
 
@@ -64,3 +65,18 @@ pub record IsAnswered (alone : Alone) (memory : ℕ) (p : Parted) : Type 0 where
   pub are : alone heard texts
   pub rest : List (List ℕ)
   pub sent : told.sent ++ rest ≡ texts
+
+-- What a report tells. By itself: who is counted under no other number met want of memory, and a fault that is counted is one of a door. Where all doors
+-- tell their visitors, it tells of those who were newly parted; and where no door failed and memory wasn't wanting, all who waited were served, up to
+-- each door's quota.
+pub record Tells (alone : Alone) (quota : ℕ) (before after : List Seen) (r : Report) : Type 0 where
+  pub least : r.closed + r.links + r.many ≤ r.visitors
+  pub most : r.visitors ≤ r.closed + r.links + r.many + r.memory
+  pub doors : 0 < r.doors → SomeRose before after
+  pub visitors : AreTold before → r.visitors ≡ length (newly_parted before after)
+  pub closed : AreTold before → AtLeast r.closed (IsClosed alone) (newly_parted before after)
+  pub links : AreTold before → AtLeast r.links (λ p. 0 < p.faults) (newly_parted before after)
+  pub many : AreTold before → AtLeast r.many IsFull (newly_parted before after)
+  pub sent : AreTold before → All (IsAnswered alone r.memory) (newly_parted before after)
+  pub whole : AreTold before → (SomeRose before after → ⊥) → r.memory ≡ 0
+      → r.visitors ≡ sum_by (λ (b : Seen). min quota (length (waiting_in b.queue))) before

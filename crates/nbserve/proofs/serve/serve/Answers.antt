@@ -1,11 +1,11 @@
 -- The notebook isn't loaded, or its visitors are served, or there are no doors.
-use Rattle.std.proofs.Common.{◌≡◌, refl, sym, subst, [], ap, Err}
+use Rattle.std.proofs.Common.{◌≡◌, refl, sym, subst, inr, [], ap, Err}
 use Rattle.link_io.specs.Outside.{Took}
 use Rattle.link_io.proofs.Taken.{took_none}
 use Rattle.py_tree.specs.View.{view_cells}
 use Rattle.cli_words.specs.Service.{asked}
 use Rattle.thin_runs.proofs.ThinRuns.{thin_runnable}
-use Rattle.nbserve.proofs.Service.{stays_same, stopped_serves}
+use Rattle.nbserve.proofs.Service.{asked_for_doors, report_statuses, stays_same, stopped_serves}
 use Rattle.nbserve.specs.Service as serves
 use Rattle.nbserve.specs.declared.command_fault.CommandFault.TheVariants as stop
 use Rattle.nbserve.proofs.serve.serve.Goals as goal
@@ -31,3 +31,9 @@ pub returns-in-Err-Failed-clause-serves : goal.returns-in-Err-Failed-clause-serv
 returns-in-Err-Failed-clause-serves g c =
     serves.no_doors (view_cells c.in-Ok.notebook) c.in-Ok.ensures.loaded
     (c.in-Err-Failed.ensures.failed (ap Err c.in-Err-Failed.field-0-is)) c.in-Err-Failed.ensures.unmet c.end_with.ensures.ended
+
+pub returns-in-Ok-serve_porch-clause-unasked : goal.returns-in-Ok-serve_porch-clause-unasked
+returns-in-Ok-serve_porch-clause-unasked g c = asked_for_doors c.end_served.ensures.ended (report_statuses c.in-Ok-serve_porch.report)
+
+pub returns-in-Err-Failed-clause-unasked : goal.returns-in-Err-Failed-clause-unasked
+returns-in-Err-Failed-clause-unasked g c = asked_for_doors c.end_with.ensures.ended (inr refl)

@@ -17,6 +17,7 @@ returns-in-Some g c =
       doors_later = c.serve.ensures.doors_later;
       unvisited = λ none. absurd (other_words (map string_bytes c.args.words.now) (asked c.in-Some.service) none (sym c.in-Some.ensures));
       untouched = λ no_command none. absurd (other_words (map string_bytes c.args.words.now) (asked c.in-Some.service) none (sym c.in-Some.ensures));
+      unasked = c.serve.ensures.unasked;
       shows = comes_shows _ _ _ _ _ _ _ _ _ _ _ _ comes;
     }
 
@@ -31,5 +32,6 @@ returns-in-None g c =
       doors_later = omega arith;
       unvisited = λ none. refl;
       untouched = λ no_command none. c.run_words.ensures.untouched no_command;
+      unasked = λ stopped. refl;
       shows = comes_shows _ _ _ _ _ _ _ _ _ _ _ _ comes;
     }

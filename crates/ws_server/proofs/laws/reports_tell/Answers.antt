@@ -1,10 +1,7 @@
--- What a report tells by itself.
-use Rattle.ws_server.proofs.Reported.{doors_reported, ends_reported}
+-- What a report tells.
+use Rattle.ws_server.proofs.Reported.{reported}
 use Rattle.ws_server.proofs.laws.reports_tell.Goals as goal
 use Rattle.ws_server.specs.Visitors.{alone_in}
 
 pub returns : goal.returns
-returns c = record {
-  ends = λ nb budget. ends_reported (alone_in nb budget);
-  doors = λ nb budget. doors_reported (alone_in nb budget);
-}
+returns c = λ nb budget. reported (alone_in nb budget)

@@ -1,10 +1,8 @@
 -- One turn more.
-use Rattle.std.proofs.Common.{◌≡◌, ◌∙◌, refl, sym, ap, subst, ◌+◌, ◌<◌, ◌≤◌, arith, false}
-use Rattle.link_io.proofs.Taken.{rose_since}
-use Rattle.link_io.specs.Outside.{Rose}
+use Rattle.std.proofs.Common.{◌≡◌, ◌∙◌, refl, sym, ap, subst, ◌+◌, ◌-◌, ◌^◌, ◌≤◌, min, arith, false}
 use Rattle.link_io.specs.declared.answers.Accepted.TheVariants as accepted
 use Rattle.py_tree.specs.View.{view_cells}
-use Rattle.ws_server.proofs.Shares.{IsPart, empty_rests, none_waits, part_bounded, part_ends, part_more, part_none, part_rests, most_memory, part_small, rose_later, rose_some, used_up}
+use Rattle.ws_server.proofs.Shares.{IsPart, doors_more, empty_rests, none_waits, part_bounded, part_ends, part_more, part_none, part_rests, most_memory, part_small, rose_some, used_up}
 use Rattle.ws_server.specs.Visitors.{alone_in}
 use Rattle.ws_server.proofs.workers.serve_door.Goals as goal
 use Rattle.ws_server.proofs.workers.serve_door.Goals.{in-Visitor, in-Failed, in-Memory}
@@ -15,7 +13,7 @@ part-requires g c = (c.accept.ensures.visitor c.in-Visitor.link c.in-Visitor.is)
 pub loop-turn-init : goal.loop-turn-init
 loop-turn-init g c =
     let none = c.requires.new.doors in
-    (c.requires.out, part_none _ _ _ c.requires.new, omega arith, λ some. absurd (omega (arith, none, some)), λ zero. refl)
+    (c.requires.out, part_none _ _ _ c.requires.new, omega arith, omega (arith, none), λ zero. refl)
 
 pub count-requires : goal.count-requires
 count-requires g c = part_small c.loop-turn.invariant.1 (omega (arith, c.loop-turn-test.true, c.ranges.quota.fits))
@@ -37,22 +35,22 @@ loop-turn-preserved g c =
           let later = c.accept.ensures.later in
           let same = w.part.ensures.same in
           let quiet = c.accept.ensures.quiet (λ failed. let no = sym w.in-Visitor.is ∙ failed in cc) in
-          subst (λ u. (g.D.Door.out u.door ≡ false) × IsPart alone q (g.D.Door.queue u.door) u.report (c.loop-turn.turn + 1) × (n ≤ g.D.Door.faults u.door) × (0 < u.report.doors → Rose n (g.D.Door.faults u.door)) × (u.report.doors ≡ 0 → g.D.Door.faults u.door ≡ n)) (sym w.worker-is) (
+          subst (λ u. (g.D.Door.out u.door ≡ false) × IsPart alone q (g.D.Door.queue u.door) u.report (c.loop-turn.turn + 1) × (n ≤ g.D.Door.faults u.door) × (min (n + u.report.doors) (2 ^ 64 - 1) ≤ g.D.Door.faults u.door) × (u.report.doors ≡ 0 → g.D.Door.faults u.door ≡ n)) (sym w.worker-is) (
             w.part.ensures.out,
             part_more _ _ _ _ _ _ _ part came.2 w.serve_one-ended.ensures.ends (λ is. rose_some _ _ came.1 (w.serve_one-ended.ensures.failed is)) w.part.ensures.parted o,
             omega (arith, at.2, later, same),
-            λ some. rose_later n (g.D.Door.faults c.loop-turn.worker.door) _ (at.3 (omega (arith, o.doors, some))) (omega (arith, later, same)),
+            (let counted = at.3 in let doors = o.doors in omega (arith, later, same)),
             λ none. same ∙ (quiet ∙ at.4 (omega (arith, o.doors, none))),
           )
       | in-Failed w ↦
           let failed = c.accept.ensures.failed w.in-Failed.is in
           let later = c.accept.ensures.later in
           let sum = w.saturating_add-worker.ensures in
-          subst (λ u. (g.D.Door.out u.door ≡ false) × IsPart alone q (g.D.Door.queue u.door) u.report (c.loop-turn.turn + 1) × (n ≤ g.D.Door.faults u.door) × (0 < u.report.doors → Rose n (g.D.Door.faults u.door)) × (u.report.doors ≡ 0 → g.D.Door.faults u.door ≡ n)) (sym w.worker-is) (
+          subst (λ u. (g.D.Door.out u.door ≡ false) × IsPart alone q (g.D.Door.queue u.door) u.report (c.loop-turn.turn + 1) × (n ≤ g.D.Door.faults u.door) × (min (n + u.report.doors) (2 ^ 64 - 1) ≤ g.D.Door.faults u.door) × (u.report.doors ≡ 0 → g.D.Door.faults u.door ≡ n)) (sym w.worker-is) (
             failed.0,
             part_rests 0 _ _ part failed.2 (record { visitors = refl; closed = refl; links = refl; many = refl; memory = omega arith; one = omega (arith, sum, turns, few, fits) }),
             omega (arith, at.2, later),
-            λ some. rose_since n (g.D.Door.faults c.loop-turn.worker.door) _ at.2 failed.1,
+            doors_more n c.loop-turn.worker.report.doors (g.D.Door.faults c.loop-turn.worker.door) _ _ at.3 failed.1 (omega (arith, sum)),
             λ none. absurd (omega (arith, sum, none)),
           )
       | in-Memory w ↦
@@ -61,11 +59,11 @@ loop-turn-preserved g c =
           let sum = w.saturating_add-worker-in-Memory.ensures in
           let memory = part.memory_is in
           let quiet = c.accept.ensures.quiet (λ failed. let no = sym w.in-Memory.is ∙ failed in cc) in
-          subst (λ u. (g.D.Door.out u.door ≡ false) × IsPart alone q (g.D.Door.queue u.door) u.report (c.loop-turn.turn + 1) × (n ≤ g.D.Door.faults u.door) × (0 < u.report.doors → Rose n (g.D.Door.faults u.door)) × (u.report.doors ≡ 0 → g.D.Door.faults u.door ≡ n)) (sym w.worker-is) (
+          subst (λ u. (g.D.Door.out u.door ≡ false) × IsPart alone q (g.D.Door.queue u.door) u.report (c.loop-turn.turn + 1) × (n ≤ g.D.Door.faults u.door) × (min (n + u.report.doors) (2 ^ 64 - 1) ≤ g.D.Door.faults u.door) × (u.report.doors ≡ 0 → g.D.Door.faults u.door ≡ n)) (sym w.worker-is) (
             wanting.0,
             part_rests 1 _ _ part wanting.1 (record { visitors = refl; closed = refl; links = refl; many = refl; memory = omega (arith, sum, most_memory part, few, fits); one = omega arith }),
             omega (arith, at.2, later),
-            λ some. rose_later n (g.D.Door.faults c.loop-turn.worker.door) _ (at.3 some) later,
+            (let counted = at.3 in omega (arith, later)),
             λ none. quiet ∙ at.4 none,
           )
     ]
@@ -88,7 +86,7 @@ returns-in-NoMore-clause-share g c =
       counts = rests.counts;
       memory = rests.memory_is;
       row = rests.row;
-      doors = λ some. rose_later _ _ _ (at.3 some) c.accept.ensures.later;
+      doors = let counted = at.3 in let later = c.accept.ensures.later in omega arith;
       sound = λ none. quiet ∙ at.4 none;
       later = omega (arith, at.2, c.accept.ensures.later);
       few = omega (arith, at.1.turns, c.loop-turn-test.true);
