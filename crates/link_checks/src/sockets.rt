@@ -137,8 +137,10 @@ fn answers_pings_and_sends_texts(rt: HostRuntime) -> Result<(), Fail> {
         (link.send(b"Hello"), link.send(b"\xff")),
         (Sent::Done, Sent::Failed)
     );
-    assert!(rt; reads(&mut client, b"\x81\x05Hello"));
     assert_eq!(rt; link.faults(), 1);
+    client.write_all(HELLO)?;
+    assert!(rt; gives(&mut link, b"Hello"));
+    assert!(rt; reads(&mut client, b"\x81\x05Hello"));
     Ok(())
 }
 
