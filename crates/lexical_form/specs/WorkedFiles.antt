@@ -5,7 +5,7 @@ use Rattle.lexical_form.specs.Worked.{name, number, text, mark, line_of, lines, 
 
 abbrev pub line_rows : List (List ℕ × Answer)
 line_rows =
-    -- blank lines and lines with only a comment are none, whatever blanks they hold
+    -- what has blanks alone, or a comment behind them, is no logical line
     lines "" [] ∷ lines "\n" [] ∷ lines "  " [] ∷ lines "# c" [] ∷ lines "\t# c\n\t\n  \t" [] ∷ row "a" (name "a" ∷ []) ∷ row "a\n" (name "a" ∷ [])
     -- a comment goes up to the line's end
     ∷ row "a # c" (name "a" ∷ []) ∷ row "a#'(\n" (name "a" ∷ []) ∷ (35 ∷ 0 ∷ 11 ∷ 195 ∷ 169 ∷ [], accepted [])

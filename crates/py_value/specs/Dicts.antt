@@ -14,7 +14,7 @@ abbrev pub item_of : Data → List (Data × Data) → Option Data
 item_of key [] = None
 item_of key (p ∷ pairs) = if eq_of key p.0 then Some p.1 else item_of key pairs
 
--- the pairs with this item at the key: an equal key keeps its place and its first spelling, and a new key goes last
+-- the pairs with this item at the key: where a key is equal, it stays where and as it is, and a new one is appended
 abbrev pub with_pair : Data → Data → List (Data × Data) → List (Data × Data)
 with_pair key item [] = (key, item) ∷ []
 with_pair key item (p ∷ pairs) = if eq_of key p.0 then (p.0, item) ∷ pairs else p ∷ with_pair key item pairs

@@ -1,5 +1,5 @@
--- Python's `==` as far as values decide it (Python language reference, section 6.10.1): numbers and truth values by number, texts,
--- lists and tuples item by item, dictionaries as sets of pairs. Python compares elements and HTML by identity, which values haven't.
+-- Python's `==` as far as values decide it (Python language reference, section 6.10.1): a truth value is the number 0 or 1, lists and
+-- tuples have equal items in order, dictionaries equal pairs in any order. Python compares elements and HTML by identity, which values haven't.
 use Rattle.std.specs.Prelude.{ℤ, Bool, true, false, ◌&&◌, ◌||◌, ◌==◌, bytes_eq, List, [], ◌∷◌, length, Option, Some, None}
 use Rattle.std.specs.Ordering.{int_eq}
 use Rattle.py_value.specs.declared.types.Data.{Data}

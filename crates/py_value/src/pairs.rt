@@ -34,8 +34,8 @@ impl Pairs {
         }
     }
 
-    /// Sets one pair (Python language reference, section 7.2): an equal key keeps its place and its first spelling, and a new key goes
-    /// last. A value that can't be a key is `WrongType` or `Subset`. A refused call leaves the pairs.
+    /// Sets one pair (Python language reference, section 7.2): where a key is equal, it stays where and as it is, and a new one is
+    /// appended. A value that can't be a key is `WrongType` or `Subset`. A refused call leaves the pairs.
     #[tactic(auto, using(crate::proofs::KeyFaults::keys_kept))]
     pub fn put(&mut self, _alloc: Global, key: Value, item: Value) -> Result<(), OpFault>
         ensures ok { OnOk result (self.new ≡ with_pair (data_of key) (data_of item) self.old) }

@@ -45,8 +45,8 @@ printed_lines [] = []
 printed_lines (Charge n line ∷ ms) = printed_lines ms
 printed_lines (Printed x ∷ ms) = x ∷ printed_lines ms
 
--- What a budget makes of the runs: the one that isn't cut, where its charges fit in it; else the cut one whose last mark is the
--- first charge with which the sum passes the budget.
+-- What a budget makes of the runs: the one that ends, where all its charges together are within the budget; else the one that is cut at the
+-- charge by which they get beyond it.
 abbrev pub Picks : {A : Type 0} → (List Mark → End A → Type 0) → ℕ → Spending A → Type 0
 Picks runs budget (Got a left console) = (ms : List Mark) × runs ms (Done a) × (cost ms + left ≡ budget) × (console ≡ printed_lines ms)
 Picks runs budget (Failed k line left console) =

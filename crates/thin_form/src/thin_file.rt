@@ -18,8 +18,8 @@ const BODY_LINES: u32 = 1000;
 /// Why bytes are no file of the thin form.
 #[derive(Clone, Copy, Debug, PartialEq, Eq)]
 pub enum ThinFault {
-    /// The number of the first line that doesn't fit, from 1, as one that has to stand alone and has an indented line behind it;
-    /// one more than the number of `\n` where the file ends too early; 0 where there are too many bytes.
+    /// The first line that doesn't fit, counted from 1: for one that has to stand alone and has an indented line behind it, that one itself.
+    /// Where the file ends too early, the number of its line feeds and one more; where it has too many bytes, 0.
     Thin { line: u32 },
     /// Memory was wanting.
     Memory,
