@@ -128,10 +128,11 @@ fn put_token(alloc: Global, text: &mut String, token: &Token) -> Result<(), Allo
     text.push_str(")")
 }
 
-fn written(alloc: Global, lines: &[LogicalLine]) -> Result<String, AllocError> {
+// The lines as such a text, counted from behind so many lines of the file.
+fn written(alloc: Global, lines: &[LogicalLine], before: u32) -> Result<String, AllocError> {
     let mut text = String::new(alloc);
     for line in lines {
-        put_number(alloc, &mut text, line.line)?;
+        put_number(alloc, &mut text, line.line.wrapping_sub(before))?;
         text.push_str(":")?;
         put_number(alloc, &mut text, line.indent)?;
         for token in line.tokens.items() {
@@ -143,11 +144,11 @@ fn written(alloc: Global, lines: &[LogicalLine]) -> Result<String, AllocError> {
 }
 
 fn answered(alloc: Global, bytes: &[u8]) -> Result<String, AllocError> {
-    if bytes.len() > 10_000 {
+    if bytes.len() > 2_000_000 {
         return String::from_str(alloc, "a long file");
     }
     match lines(alloc, bytes) {
-        Ok(lines) => written(alloc, lines.as_slice()),
+        Ok(lines) => written(alloc, lines.as_slice(), 0),
         Err(LexFault::Token { line }) => format!(in alloc; "Token {line}"),
         Err(LexFault::NotUtf8 { line }) => format!(in alloc; "NotUtf8 {line}"),
         Err(LexFault::Memory) => Err(AllocError),
@@ -158,6 +159,72 @@ fn answered(alloc: Global, bytes: &[u8]) -> Result<String, AllocError> {
 fn reads_every_kind_of_token(rt: HostRuntime) -> Result<(), Fail> {
     let alloc = rt.alloc();
     assert_eq!(rt; answered(alloc, FILE.as_bytes())?.as_str(), WANTED);
+    Ok(())
+}
+
+// Further prefixes and formats, blank lines, blanks and comments. What is wanted is told in the same way.
+const MORE: &str = r##"p = [r'\d', R"\"", '\x41\u00e9', """c
+"d\U0001f600\
+""", f'{a}', F"{b!s}", fr'{c:<3}', fR"{d!r:^4s}", Fr"""{e:,d}
+""", FR'{g:0200}',
+
+    rf'{h:s}', rF"{i:d}", Rf'{ j }', RF"{k:>}", not 9]  # in brackets
+  # not in a line
+"##;
+
+const BLANKS: &str = "for o in p:\n   if o:\n\n\t# a tab\n    \n      l\t= o\n";
+
+const WANTED_MORE: &str =
+    r##"13:0 n(p) m(=) m([) t(r'\d') m(,) t(R"\"") m(,) t('\x41\u00e9') m(,) t("""c
+"d\U0001f600\
+""") m(,) f(f'{a}'|{a}) m(,) f(F"{b!s}"|{b!s}) m(,) f(fr'{c:<3}'|{c:<3}) m(,) f(fR"{d!r:^4s}"|{d!r:^4s}) m(,) f(Fr"""{e:,d}
+"""|{e:,d}|
+) m(,) f(FR'{g:0200}'|{g:0200}) m(,) f(rf'{h:s}'|{h:s}) m(,) f(rF"{i:d}"|{i:d}) m(,) f(Rf'{ j }'|{j}) m(,) f(RF"{k:>}"|{k:>}) m(,) n(not) i(9) m(])
+20:0 n(for) n(o) n(in) n(p) m(:)
+21:3 n(if) n(o) m(:)
+25:6 n(l) m(=) n(o)
+"##;
+
+// The lines of FILE, MORE and BLANKS.
+const BLOCK_LINES: u32 = 25;
+
+// FILE, MORE and BLANKS 1,756 times, and behind them a comment up to 1,048,576 bytes.
+fn large_file(alloc: Global) -> Result<String, AllocError> {
+    let mut file = String::new(alloc);
+    for _ in 0..1_756 {
+        file.push_str(FILE)?;
+        file.push_str(MORE)?;
+        file.push_str(BLANKS)?;
+    }
+    for _ in file.len()..1_048_576 {
+        file.push_str("#")?;
+    }
+    Ok(file)
+}
+
+// Python 3.11's `tokenize` gives the same 19,316 logical lines for this file, of which the last one stands in line 43,900. Nothing may stand
+// in a line behind them, so the file is refused there with a `?`.
+#[test]
+fn reads_a_large_file(rt: HostRuntime) -> Result<(), Fail> {
+    let alloc = rt.alloc();
+    let mut wanted = String::from_str(alloc, WANTED)?;
+    wanted.push_str(WANTED_MORE)?;
+    let mut file = large_file(alloc)?;
+    assert_eq!(rt; file.len(), 1_048_576);
+    let read = lines(alloc, file.as_str().as_bytes())?;
+    assert_eq!(rt; read.len(), 19_316);
+    let mut before: u32 = 0;
+    for block in read.as_slice().chunks(11) {
+        let told = written(alloc, block, before)?;
+        assert_eq!(rt; told.as_str(), wanted.as_str(), "behind line {before}");
+        before = before.wrapping_add(BLOCK_LINES);
+    }
+    assert_eq!(rt; before, 43_900);
+    file.push_str("\n?")?;
+    assert_eq!(rt;
+        answered(alloc, file.as_str().as_bytes())?.as_str(),
+        "Token 43902"
+    );
     Ok(())
 }
 
