@@ -1,5 +1,5 @@
 // From bytes to a message.
-ghost use Rattle.std.specs.Prelude.{◌≡◌, ◌++◌, IfOk, IfErr, OnOk, option_map, MatchOption};
+ghost use Rattle.std.specs.Prelude.{◌≡◌, IfOk, IfErr, MatchOption};
 ghost use Rattle.message_json.specs.Only.{only};
 ghost use Rattle.message_json.specs.declared.fault.MessageFault.TheVariants.{NotMessage};
 ghost use Rattle.message_meaning.specs.Computed.{message_in, said_at};
