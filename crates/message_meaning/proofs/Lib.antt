@@ -1,0 +1,3 @@
+mod Computing
+mod Ordered
+pub mod Shapes

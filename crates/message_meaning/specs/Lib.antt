@@ -1,0 +1,4 @@
+pub mod Computed
+pub mod Messages
+pub mod Order
+pub mod Samples

@@ -1,0 +1,6 @@
+//! What a visitor sends, as plain types.
+#![tactic(auto)]
+
+mod message;
+
+pub use message::{Message, SetItem, SetItems};
