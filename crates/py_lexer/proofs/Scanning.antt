@@ -12,10 +12,10 @@ use Rattle.lexical_form.specs.Lines.{State, Piece, start, after, piece_spelling,
 use Rattle.lexical_form.specs.LineReader.{piece_at}
 use Rattle.std.specs.declared.alloc.AllocError.{AllocError}
 use Rattle.std.specs.Borrow.{Bor}
-use Rattle.py_lexer.specs.declared.token.Token.{Token, out-Token, roll-out-Token, fold-roll-Token}
+use Rattle.py_tokens.specs.declared.token.Token.{Token, out-Token, roll-out-Token, fold-roll-Token}
 use Rattle.lexical_form.specs.Tokens as pure_tokens
 use Rattle.lexical_form.specs.Tokens.{spelling}
-use Rattle.py_lexer.specs.TokenView.{view_token, piece_step, kind_step, pieces_step, token_step, tokens_step}
+use Rattle.py_tokens.specs.TokenView.{view_token, piece_step, kind_step, pieces_step, token_step, tokens_step}
 use Rattle.lexical_form.specs.TokenReader.{next}
 use Rattle.lexical_form.specs.Longest.{Longest, NoToken}
 use Rattle.lexical_form.specs.LineReader.{fitting, comment_at}

@@ -6,5 +6,4 @@ pub mod Digits
 pub mod Ends
 pub mod FormatParts
 pub mod ScanView
-pub mod TokenView
 pub mod Views

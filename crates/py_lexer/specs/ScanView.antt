@@ -1,25 +1,23 @@
 -- What the code's scan stands for.
 use Rattle.std.specs.Prelude.{ℕ, cond, IfSome, MatchOption, [], ◌∷◌, not, ◌==◌, List, map, Option, Some, None, Result, Ok, Err, IfOk}
 use Rattle.std.specs.Global.{Vec}
-use Rattle.std.specs.Borrow.{Bor}
+use Rattle.std.specs.Borrow.{Bor, MutBor}
 use Rattle.std.specs.declared.alloc.AllocError.{AllocError}
 use Rattle.std.specs.declared.alloc.Global.{Global}
-use Rattle.py_lexer.specs.declared.token.Token.{Token}
+use Rattle.py_tokens.specs.declared.names.Names.{Names}
+use Rattle.py_tokens.specs.declared.token.Token.{Token}
 use Rattle.lexical_form.specs.Tokens as pure_tokens
 use Rattle.lexical_form.specs.Reading.{span}
 use Rattle.lexical_form.specs.TokenReader.{next}
-use Rattle.py_lexer.specs.TokenView.{view_token, token_list}
+use Rattle.py_tokens.specs.TokenView.{view_line, view_token}
 use Rattle.lexical_form.specs.Lines as pure
 use Rattle.lexical_form.specs.Lines.{State, Piece, a_token, space, tab, line_end, after, may_take}
 use Rattle.std.specs.Str.{IsUtf8}
 use Rattle.lexical_form.specs.Longest.{Longest, NoToken}
 use Rattle.lexical_form.specs.LineReader.{piece_at}
-use Rattle.py_lexer.specs.declared.scan.LogicalLine.{LogicalLine}
+use Rattle.py_tokens.specs.declared.line.LogicalLine.{LogicalLine}
 use Rattle.py_lexer.specs.BracketView.{opened}
 use Rattle.py_lexer.specs.declared.scan.Scan.{Scan}
-
-abbrev pub view_line : LogicalLine → pure.Line
-view_line l = record { line = l.line; indent = l.indent; tokens = map view_token (token_list l.tokens) }
 
 abbrev pub state : Scan → State
 state s = record {
@@ -62,12 +60,17 @@ abbrev pub seen : Option (Token × Bor (List ℕ)) → Option (pure_tokens.Token
 seen None = None
 seen (Some p) = Some (view_token p.0, p.1.now)
 
--- A function value that reads the longest token at the front of a text in UTF-8, and none exactly where no token begins.
-pub record ReadsTokens (pre : Global → Bor (List ℕ) → Type 0) (post : Global → Bor (List ℕ) → Result (Option (Token × Bor (List ℕ))) AllocError → Type 0) : Type 0 where
-  pub callable : (alloc : Global) (text : Bor (List ℕ)) → pre alloc text
-  pub reads : (alloc : Global) (text : Bor (List ℕ)) (r : Result (Option (Token × Bor (List ℕ))) AllocError) → IsUtf8 text.now → post alloc text r
+-- what reading a token gives, or want of memory
+abbrev pub Reading : Type 0
+Reading = Result (Option (Token × Bor (List ℕ))) AllocError
+
+-- A function value that reads the longest token at the front of a text in UTF-8, and none exactly where no token begins. Nothing is said of
+-- the names that it notes.
+pub record ReadsTokens (pre : Global → MutBor Names → Bor (List ℕ) → Type 0) (post : Global → MutBor Names → Bor (List ℕ) → Reading → MutBor Names → Type 0) : Type 0 where
+  pub callable : (alloc : Global) (names : MutBor Names) (text : Bor (List ℕ)) → pre alloc names text
+  pub reads : (alloc : Global) (names left : MutBor Names) (text : Bor (List ℕ)) (r : Reading) → IsUtf8 text.now → post alloc names text r left
       → IfOk r (λ o. MatchOption (seen o) (NoToken text.now) (λ p. Longest text.now p.0 p.1))
-  pub is_text : (alloc : Global) (text : Bor (List ℕ)) (r : Result (Option (Token × Bor (List ℕ))) AllocError) → IsUtf8 text.now → post alloc text r
+  pub is_text : (alloc : Global) (names left : MutBor Names) (text : Bor (List ℕ)) (r : Reading) → IsUtf8 text.now → post alloc names text r left
       → IfOk r (λ o. IfSome o (λ p. IsUtf8 p.1.now))
 
 abbrev pub view_lines : {E : Type 0} → Result (Vec LogicalLine) E → Result (List pure.Line) E

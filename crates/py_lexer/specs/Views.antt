@@ -1,12 +1,4 @@
 -- Data of the code as definitions see it.
-use Rattle.std.specs.Prelude.{option_map}
-use Rattle.lexical_form.specs.Tokens as tokens
-use Rattle.py_lexer.specs.declared.spec.Align.{Align}
-use Rattle.py_lexer.specs.declared.spec.Align.TheVariants as align
-use Rattle.py_lexer.specs.declared.spec.Form.{Form}
-use Rattle.py_lexer.specs.declared.spec.Form.TheVariants as form
-use Rattle.py_lexer.specs.declared.spec.Spec.{Spec}
-use Rattle.py_lexer.specs.declared.spec.Spec.TheVariants as spec
 use Rattle.lexical_form.specs.Texts as pure
 use Rattle.py_lexer.specs.declared.texts.Quotes.{Quotes}
 use Rattle.lexical_form.specs.Plain as plains
@@ -21,17 +13,3 @@ plain_kind kinds.Name = plains.name
 plain_kind kinds.Number = plains.number
 plain_kind kinds.Text = plains.text
 plain_kind kinds.Mark = plains.mark
-
-abbrev pub view_align : Align → tokens.Align
-view_align align.Left = tokens.left
-view_align align.Right = tokens.right
-view_align align.Center = tokens.center
-
-abbrev pub view_form : Form → tokens.Form
-view_form form.Decimal = tokens.decimal
-view_form form.Text = tokens.string
-
-abbrev pub view_spec : Spec → tokens.Spec
-view_spec (spec.Aligned a w f) = tokens.aligned (option_map view_align a) w (option_map view_form f)
-view_spec (spec.Zeros w d) = tokens.zeros w d
-view_spec (spec.Comma d) = tokens.comma d

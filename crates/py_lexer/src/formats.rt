@@ -2,7 +2,7 @@
 ghost use Rattle.std.specs.Prelude.{◌≡◌, ◌∷◌, ◌++◌, ℕ, List, IfSome, IsTrue, MatchOption, cond, nat_le, Some, None, option_map};
 ghost use Rattle.std.specs.List.{list_all};
 ghost use Rattle.py_tree.specs.Names as names;
-ghost use Rattle.py_lexer.specs.Views.{view_align, view_form, view_spec};
+ghost use Rattle.py_tokens.specs.SpecView.{view_align, view_form, view_spec};
 ghost use Rattle.lexical_form.specs.Formats as formats;
 ghost use Rattle.lexical_form.specs.Formats.{Format};
 ghost use Rattle.lexical_form.specs.FormatReader.{format_at};
@@ -10,8 +10,8 @@ ghost use Rattle.py_lexer.specs.FormatParts as parts;
 ghost use Rattle.lexical_form.specs.Numbers as numbers;
 ghost use Rattle.lexical_form.specs.Reading.{span};
 
-use crate::spec::{Align, Form, Spec};
 use crate::words::is_digit;
+use py_tokens::{Align, Form, Spec};
 
 /// What a format at the front says, and what is behind it; none only where no format ends directly before a `}`. Where the one that is read
 /// ends there, as in a field, no other one does.

@@ -11,9 +11,7 @@ mod marks;
 mod numbers;
 mod plain;
 mod scan;
-mod spec;
 mod texts;
-mod token;
 mod words;
 
 pub use brackets::{closing_of, is_closing, single};
@@ -24,8 +22,5 @@ pub use front::plain_token;
 pub use logical_lines::lines_by;
 pub use numbers::number;
 pub use plain::{PlainKind, behind_closing, is_f_text_prefix, is_text_prefix, opening};
-pub use scan::LogicalLine;
-pub use spec::{Align, Form, Spec};
 pub use texts::{Quotes, character, hex_digits, lead};
-pub use token::{Convert, Piece, Pieces, Token, TokenKind, Tokens};
 pub use words::{is_quote, starts_quote, word};

@@ -6,17 +6,17 @@ ghost use Rattle.py_lexer.specs.ScanView.{ReadsTokens, state, view_lines};
 
 use crate::fault::LexFault;
 use crate::file_text::{is_clean, is_readable, readable};
-use crate::scan::{LogicalLine, Scan, cut, line_ends};
-use crate::token::Token;
+use crate::scan::{Scan, cut, line_ends};
+use py_tokens::{LogicalLine, Names, Token};
 use std::alloc::{AllocError, Global};
 
 /// The logical lines that the bytes are, or the line at which they are refused: `NotUtf8` with the line of the first byte that is no part of
-/// a character, or `Token` (Python language reference, section 2.1). `next` reads the longest token at the front of a text.
-pub fn lines_by<F: Fn(Global, &str) -> Result<Option<(Token, &str)>, AllocError> + Copy>(
-    alloc: Global,
-    bytes: &[u8],
-    next: F,
-) -> Result<Vec<LogicalLine>, LexFault>
+/// a character, or `Token` (Python language reference, section 2.1). `next` reads the longest token at the front of a text,
+/// and notes its names.
+pub fn lines_by<
+    F: for<'s> Fn(Global, &mut Names, &'s str) -> Result<Option<(Token, &'s str)>, AllocError>
+        + Copy,
+>(alloc: Global, bytes: &[u8], names: &mut Names, next: F) -> Result<Vec<LogicalLine>, LexFault>
     requires reads { ReadsTokens (F.pre next) (F.post next) }
     requires small { length bytes.now + 1 < 2 ^ 32 }
     ensures { Answers bytes.now (view_lines result) }
@@ -31,16 +31,20 @@ pub fn lines_by<F: Fn(Global, &str) -> Result<Option<(Token, &str)>, AllocError>
         }
     };
     if is_clean(bytes) {
-        return text_lines(alloc, text, true, next);
+        return text_lines(alloc, names, text, true, next);
     }
     let copy = readable(alloc, text)?;
-    text_lines(alloc, copy.as_str(), is_readable(bytes), next)
+    text_lines(alloc, names, copy.as_str(), is_readable(bytes), next)
 }
 
 // The answer about a text of which all that is barred is cut off.
 #[tactic(auto, using(crate::proofs::AnswerLaws::answered))]
-fn text_lines<F: Fn(Global, &str) -> Result<Option<(Token, &str)>, AllocError> + Copy>(
+fn text_lines<
+    F: for<'s> Fn(Global, &mut Names, &'s str) -> Result<Option<(Token, &'s str)>, AllocError>
+        + Copy,
+>(
     alloc: Global,
+    names: &mut Names,
     text: &str,
     whole: bool,
     next: F,
@@ -49,7 +53,7 @@ fn text_lines<F: Fn(Global, &str) -> Result<Option<(Token, &str)>, AllocError> +
     requires small { length text.now + 1 < 2 ^ 32 }
     ensures { Answered whole text.now (view_lines result) }
 {
-    let (scan, rest) = cut(alloc, text, next)?;
+    let (scan, rest) = cut(alloc, names, text, next)?;
     answer(alloc, scan, rest, whole)
 }
 

@@ -1,24 +1,16 @@
 // One scan over a text.
 ghost use Rattle.std.specs.Str.{IsUtf8, IsCharBoundary};
 ghost use Rattle.std.specs.Prelude.{IsTrue, drop, nat_lt, ◌≡◌, ◌+◌, ◌<◌, ◌≤◌, ◌^◌, ◌==◌, IfOk, IfSome, OnOk, length, option_map, map, cond, Some, None, ◌∷◌, []};
-ghost use Rattle.py_lexer.specs.TokenView.{view_token};
+ghost use Rattle.py_tokens.specs.TokenView.{view_line, view_token};
 ghost use Rattle.lexical_form.specs.Lines as lines;
 ghost use Rattle.lexical_form.specs.TokenReader as lexing;
 ghost use Rattle.lexical_form.specs.Bytes.{is_empty, starts};
 ghost use Rattle.py_lexer.specs.BracketView.{opened};
-ghost use Rattle.py_lexer.specs.ScanView.{view_line, state, comment_end, step_says, token_says, seen, ReadsTokens};
+ghost use Rattle.py_lexer.specs.ScanView.{state, comment_end, step_says, token_says, seen, ReadsTokens};
 
 use crate::brackets::{Brackets, single};
-use crate::token::{Token, Tokens};
+use py_tokens::{LogicalLine, Names, Token, Tokens};
 use std::alloc::{AllocError, Global};
-
-/// A logical line: the line of the file in which its first token begins, from 1; the number of spaces before that token; its tokens.
-#[derive(Debug, Drop)]
-pub struct LogicalLine {
-    pub line: u32,
-    pub indent: u32,
-    pub tokens: Tokens,
-}
 
 /// What a scan has found so far.
 #[derive(Debug, Drop)]
@@ -192,8 +184,12 @@ fn comment_len(bytes: &[u8]) -> usize
 }
 
 // The token at the front, which is no longer than the text.
-fn token_at<'a, F: Fn(Global, &str) -> Result<Option<(Token, &str)>, AllocError>>(
+fn token_at<
+    'a,
+    F: for<'s> Fn(Global, &mut Names, &'s str) -> Result<Option<(Token, &'s str)>, AllocError>,
+>(
     alloc: Global,
+    names: &mut Names,
     rest: &'a str,
     next: F,
 ) -> Result<Option<(Token, &'a str)>, AllocError>
@@ -202,14 +198,18 @@ fn token_at<'a, F: Fn(Global, &str) -> Result<Option<(Token, &str)>, AllocError>
     ensures short { IfOk result (λ o. IfSome o (λ p. length p.0.spelling ≤ length rest.now)) }
     ensures text { IfOk result (λ o. IfSome o (λ p. IsUtf8 p.1.now)) }
 {
-    next(alloc, rest)
+    next(alloc, names, rest)
 }
 
 impl Scan {
     // Takes the piece at the front, and answers what is behind it.
-    fn step<'a, F: Fn(Global, &str) -> Result<Option<(Token, &str)>, AllocError>>(
+    fn step<
+        'a,
+        F: for<'s> Fn(Global, &mut Names, &'s str) -> Result<Option<(Token, &'s str)>, AllocError>,
+    >(
         &mut self,
         alloc: Global,
+        names: &mut Names,
         rest: &'a str,
         next: F,
     ) -> Result<Option<&'a str>, AllocError>
@@ -237,13 +237,17 @@ impl Scan {
         if *first == b'#' {
             return Ok(Some(behind_comment(behind_first(rest))));
         }
-        self.token(alloc, rest, next)
+        self.token(alloc, names, rest, next)
     }
 
     // Takes the token at the front, and answers what is behind it.
-    fn token<'a, F: Fn(Global, &str) -> Result<Option<(Token, &str)>, AllocError>>(
+    fn token<
+        'a,
+        F: for<'s> Fn(Global, &mut Names, &'s str) -> Result<Option<(Token, &'s str)>, AllocError>,
+    >(
         &mut self,
         alloc: Global,
+        names: &mut Names,
         rest: &'a str,
         next: F,
     ) -> Result<Option<&'a str>, AllocError>
@@ -252,7 +256,7 @@ impl Scan {
         ensures steps { IfOk result (λ o. (state self.new, option_map (λ r. r.now) o) ≡ token_says (state self.old) (lexing.next rest.now)) }
         ensures text { IfOk result (λ o. IfSome o (λ r. IsUtf8 r.now)) }
     {
-        let Some((token, behind)) = token_at(alloc, rest, next)? else {
+        let Some((token, behind)) = token_at(alloc, names, rest, next)? else {
             return Ok(None);
         };
         if !self.may_take(&token) {
@@ -264,18 +268,18 @@ impl Scan {
 }
 
 // Takes pieces as far as they go, and answers what is behind them.
-pub fn cut<'a, F: Fn(Global, &str) -> Result<Option<(Token, &str)>, AllocError> + Copy>(
-    alloc: Global,
-    text: &'a str,
-    next: F,
-) -> Result<(Scan, &'a str), AllocError>
+pub fn cut<
+    'a,
+    F: for<'s> Fn(Global, &mut Names, &'s str) -> Result<Option<(Token, &'s str)>, AllocError>
+        + Copy,
+>(alloc: Global, names: &mut Names, text: &'a str, next: F) -> Result<(Scan, &'a str), AllocError>
     requires reads { ReadsTokens (F.pre next) (F.post next) }
     requires small { length text.now + 1 < 2 ^ 32 }
     ensures { IfOk result (λ r. lines.Cut text.now (state r.0) r.1.now) }
 {
     let mut scan = Scan::new(alloc);
     let mut rest = text;
-    while let Some(behind) = scan.step(alloc, rest, next)? {
+    while let Some(behind) = scan.step(alloc, names, rest, next)? {
         rest = behind;
     }
     Ok((scan, rest))

@@ -1,5 +1,7 @@
 -- For `plain_at`.
 pub mod PlainReads
+-- For `owned`: the number that is kept.
+pub mod NumberLaws
 -- For `items`: a field's tokens, one after the other.
 pub mod FieldStepLaws
 pub mod FieldScan

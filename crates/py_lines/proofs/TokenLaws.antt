@@ -8,7 +8,7 @@ use Rattle.lexical_form.specs.Tokens as pure
 use Rattle.lexical_form.specs.Longest.{Longest, NoToken}
 use Rattle.lexical_form.specs.TokenReader.{next}
 use Rattle.lexical_form.proofs.NextLaws.{Decided, next_decides}
-use Rattle.py_lexer.specs.declared.token.Token.{Token}
+use Rattle.py_tokens.specs.declared.token.Token.{Token}
 use Rattle.py_lexer.specs.ScanView.{seen}
 
 matched : (ts : List ℕ) (r : Read pure.Token) → Decided ts r → MatchOption r (NoToken ts) (λ p. Longest ts p.0 p.1)

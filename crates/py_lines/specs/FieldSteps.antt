@@ -1,7 +1,7 @@
 -- A field's tokens, one after the other.
 use Rattle.std.specs.Prelude.{ℕ, cond, List, [], ◌∷◌, ◌++◌, map, reverse, Option, Some, None}
 use Rattle.lexical_form.specs.Tokens as pure
-use Rattle.py_lexer.specs.TokenView.{view_token}
+use Rattle.py_tokens.specs.TokenView.{view_token}
 use Rattle.lexical_form.specs.Reading.{Read}
 use Rattle.lexical_form.specs.Brackets.{open_after}
 use Rattle.lexical_form.specs.PlainReader.{next_plain}

@@ -1,7 +1,7 @@
 -- The pieces of an f-text so far, as the code holds them.
 use Rattle.std.specs.Prelude.{ℕ, List, map, string_bytes}
 use Rattle.lexical_form.specs.Tokens as pure
-use Rattle.py_lexer.specs.TokenView.{view_piece}
+use Rattle.py_tokens.specs.TokenView.{view_piece}
 use Rattle.py_lines.specs.declared.said.Said.{Said}
 
 -- the pieces that are done, and the characters since the last field

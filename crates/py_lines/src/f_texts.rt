@@ -2,14 +2,15 @@
 ghost use Rattle.std.specs.Prelude.{◌≡◌, ◌++◌, IfOk, MatchOption, None, map, option_map};
 ghost use Rattle.lexical_form.specs.FTexts.{characters_piece, has_r};
 ghost use Rattle.lexical_form.specs.TokenReader.{next};
-ghost use Rattle.py_lexer.specs.TokenView.{view_piece};
+ghost use Rattle.py_tokens.specs.TokenView.{view_piece};
 ghost use Rattle.py_lexer.specs.Views.{quotes};
 ghost use Rattle.py_lines.specs.FTextCuts.{FTextCut, Opens, opened_says};
 ghost use Rattle.py_lines.specs.PieceView.{built};
 
 use crate::pieces::pieces;
 use crate::said::Said;
-use py_lexer::{Piece, Quotes, is_f_text_prefix, is_quote, opening, word};
+use py_lexer::{Quotes, is_f_text_prefix, is_quote, opening, word};
+use py_tokens::{Names, Piece};
 use std::alloc::{AllocError, Global};
 
 fn is_raw(prefix: &[u8]) -> bool
@@ -48,6 +49,7 @@ fn all_pieces(alloc: Global, said: Said) -> Result<Vec<Piece>, AllocError>
 /// The pieces of the f-text that begins at the front, and how many bytes it has; none where no token begins there.
 pub fn f_text(
     alloc: Global,
+    names: &mut Names,
     q: Quotes,
     text: &str,
     inside: &[u8],
@@ -57,7 +59,7 @@ pub fn f_text(
 {
     let bytes = text.as_bytes();
     let (_front, within) = text.split_at(bytes.len().saturating_sub(inside.len()));
-    let Some((said, behind)) = pieces(alloc, q, within)? else {
+    let Some((said, behind)) = pieces(alloc, names, q, within)? else {
         return Ok(None);
     };
     let len = bytes.len().saturating_sub(behind.len());

@@ -5,15 +5,17 @@ ghost use Rattle.std.specs.Str.{IsUtf8};
 ghost use Rattle.lexical_form.specs.Bytes as kinds;
 ghost use Rattle.lexical_form.specs.Fields as fields;
 ghost use Rattle.lexical_form.specs.FieldReader.{convert_at, field_at};
-ghost use Rattle.py_lexer.specs.Views.{quotes, view_spec};
+ghost use Rattle.py_lexer.specs.Views.{quotes};
+ghost use Rattle.py_tokens.specs.SpecView.{view_spec};
 ghost use Rattle.lexical_form.specs.Tokens as pure;
-ghost use Rattle.py_lexer.specs.TokenView.{view_convert, view_piece, view_tokens};
+ghost use Rattle.py_tokens.specs.TokenView.{view_convert, view_piece, view_tokens};
 ghost use Rattle.py_lines.specs.FieldEnds as ends;
 ghost use Rattle.py_lines.specs.FieldEnds.{FieldRead};
 ghost use Rattle.py_lines.specs.FieldSteps.{inside};
 
 use crate::fields::{Inside, items};
-use py_lexer::{Convert, Piece, Quotes, Spec, Tokens, format};
+use py_lexer::{Quotes, format};
+use py_tokens::{Convert, Names, Piece, Spec, Tokens};
 use std::alloc::{AllocError, Global};
 
 // `!r` or `!s` at the front, and what is behind it.
@@ -143,11 +145,16 @@ fn field_piece(tokens: Tokens, convert: Convert, spec: Option<Spec>) -> Piece
 }
 
 // The field at the front, and how many bytes it has.
-fn measured(alloc: Global, q: Quotes, text: &str) -> Result<Option<(Piece, usize)>, AllocError>
+fn measured(
+    alloc: Global,
+    names: &mut Names,
+    q: Quotes,
+    text: &str,
+) -> Result<Option<(Piece, usize)>, AllocError>
     ensures { IfOk result (λ o. MatchOption o (field_at (quotes q) text.now ≡ None)
         (λ p. FieldRead (quotes q) text.now p.1 (view_piece p.0))) }
 {
-    let (found, rest) = items(alloc, text)?;
+    let (found, rest) = items(alloc, names, text)?;
     let Some(((convert, spec), behind)) = tail(rest.as_bytes()) else {
         return Ok(None);
     };
@@ -162,12 +169,17 @@ fn measured(alloc: Global, q: Quotes, text: &str) -> Result<Option<(Piece, usize
 }
 
 /// The field at the front, of which the `{` is read, and what is behind its `}`; none where no field is there.
-pub fn field(alloc: Global, q: Quotes, text: &str) -> Result<Option<(Piece, &str)>, AllocError>
+pub fn field<'a>(
+    alloc: Global,
+    names: &mut Names,
+    q: Quotes,
+    text: &'a str,
+) -> Result<Option<(Piece, &'a str)>, AllocError>
     ensures reads { IfOk result (λ o. option_map (λ p. (view_piece p.0, p.1.now)) o
         ≡ ends.piece_read (field_at (quotes q) text.now)) }
     ensures text { IfOk result (λ o. IfSome o (λ p. IsUtf8 p.1.now)) }
 {
-    let Some((piece, len)) = measured(alloc, q, text)? else {
+    let Some((piece, len)) = measured(alloc, names, q, text)? else {
         return Ok(None);
     };
     let (_field, behind) = text.split_at(len);

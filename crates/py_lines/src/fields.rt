@@ -6,13 +6,14 @@ ghost use Rattle.lexical_form.specs.Fields as fields;
 ghost use Rattle.lexical_form.specs.FTexts.{token_of};
 ghost use Rattle.lexical_form.specs.PlainReader.{next_plain};
 ghost use Rattle.lexical_form.specs.TokenReader.{some_plain};
-ghost use Rattle.py_lexer.specs.TokenView.{view_token};
+ghost use Rattle.py_tokens.specs.TokenView.{view_token};
 ghost use Rattle.py_lines.specs.FieldCuts.{FieldCut};
 ghost use Rattle.py_lines.specs.FieldSteps.{inside, step_says, token_stepped};
 ghost use Rattle.py_lines.specs.PlainView.{plain_of};
 
 use crate::plain_tokens::{owned, plain_at};
-use py_lexer::{Token, closing_of, is_closing, single};
+use py_lexer::{closing_of, is_closing, single};
+use py_tokens::{Names, Token};
 use std::alloc::{AllocError, Global};
 
 /// The tokens of a field so far, and the brackets that are open among them, the innermost last.
@@ -85,7 +86,12 @@ impl Inside {
     }
 
     // Takes the token at the front, and answers what is behind it.
-    fn token<'a>(&mut self, alloc: Global, text: &'a str) -> Result<Option<&'a str>, AllocError>
+    fn token<'a>(
+        &mut self,
+        alloc: Global,
+        names: &mut Names,
+        text: &'a str,
+    ) -> Result<Option<&'a str>, AllocError>
         ensures steps { IfOk result (λ o. (inside self.new, option_map (λ r. r.now) o)
             ≡ token_stepped (inside self.old) (some_plain (next_plain text.now))) }
         ensures text { IfOk result (λ o. IfSome o (λ r. IsUtf8 r.now)) }
@@ -96,12 +102,17 @@ impl Inside {
         if !self.may_come(spelling.as_bytes()) {
             return Ok(None);
         }
-        self.take(owned(alloc, kind, spelling)?)?;
+        self.take(owned(alloc, names, kind, spelling)?)?;
         Ok(Some(behind))
     }
 
     // Takes the item at the front, and answers what is behind it.
-    fn step<'a>(&mut self, alloc: Global, text: &'a str) -> Result<Option<&'a str>, AllocError>
+    fn step<'a>(
+        &mut self,
+        alloc: Global,
+        names: &mut Names,
+        text: &'a str,
+    ) -> Result<Option<&'a str>, AllocError>
         ensures steps { IfOk result (λ o. (inside self.new, option_map (λ r. r.now) o) ≡ step_says (inside self.old) text.now) }
         ensures text { IfOk result (λ o. IfSome o (λ r. IsUtf8 r.now)) }
     {
@@ -112,17 +123,21 @@ impl Inside {
             let (_blank, behind) = text.split_at(1);
             return Ok(Some(behind));
         }
-        self.token(alloc, text)
+        self.token(alloc, names, text)
     }
 }
 
 /// Takes tokens and blanks as far as they go, and answers what is behind them.
-pub fn items(alloc: Global, text: &str) -> Result<(Inside, &str), AllocError>
+pub fn items<'a>(
+    alloc: Global,
+    names: &mut Names,
+    text: &'a str,
+) -> Result<(Inside, &'a str), AllocError>
     ensures { IfOk result (λ r. FieldCut text.now (inside r.0) r.1.now) }
 {
     let mut found = Inside::new(alloc);
     let mut rest = text;
-    while let Some(behind) = found.step(alloc, rest)? {
+    while let Some(behind) = found.step(alloc, names, rest)? {
         rest = behind;
     }
     Ok((found, rest))

@@ -6,7 +6,7 @@ ghost use Rattle.lexical_form.specs.Bytes.{starts};
 ghost use Rattle.lexical_form.specs.FTexts.{characters_piece};
 ghost use Rattle.lexical_form.specs.Meaning.{meant_byte, utf8};
 ghost use Rattle.lexical_form.specs.Tokens as pure;
-ghost use Rattle.py_lexer.specs.TokenView.{view_piece};
+ghost use Rattle.py_tokens.specs.TokenView.{view_piece};
 ghost use Rattle.py_lexer.specs.Views.{quotes};
 ghost use Rattle.lexical_form.specs.Reading.{span};
 ghost use Rattle.lexical_form.specs.Texts as texts;
@@ -16,7 +16,8 @@ ghost use Rattle.py_lines.specs.PieceView.{built};
 
 use crate::field_ends::field;
 use crate::runs::{run, split_first, split_lead};
-use py_lexer::{Piece, Quotes, character, hex_digits};
+use py_lexer::{Quotes, character, hex_digits};
+use py_tokens::{Names, Piece};
 use py_tree::Spelling;
 use std::alloc::{AllocError, Global};
 
@@ -144,6 +145,7 @@ impl Said {
     fn braced<'a>(
         &mut self,
         alloc: Global,
+        names: &mut Names,
         q: Quotes,
         text: &'a str,
     ) -> Result<Option<&'a str>, AllocError>
@@ -163,7 +165,7 @@ impl Said {
         if *first != b'{' {
             return Ok(None);
         }
-        let Some((piece, behind)) = field(alloc, q, behind)? else {
+        let Some((piece, behind)) = field(alloc, names, q, behind)? else {
             return Ok(None);
         };
         self.piece(alloc, piece)?;
@@ -242,6 +244,7 @@ impl Said {
     fn slashed<'a>(
         &mut self,
         alloc: Global,
+        names: &mut Names,
         q: Quotes,
         text: &'a str,
     ) -> Result<Option<&'a str>, AllocError>
@@ -251,7 +254,7 @@ impl Said {
     {
         if starts_brace(text.as_bytes()) {
             self.say("\\")?;
-            return self.braced(alloc, q, text);
+            return self.braced(alloc, names, q, text);
         }
         self.escape(q, text)
     }
@@ -274,6 +277,7 @@ impl Said {
     fn part<'a>(
         &mut self,
         alloc: Global,
+        names: &mut Names,
         q: Quotes,
         text: &'a str,
     ) -> Result<Option<&'a str>, AllocError>
@@ -285,11 +289,11 @@ impl Said {
             return Ok(None);
         };
         if starts_brace(text.as_bytes()) {
-            return self.braced(alloc, q, text);
+            return self.braced(alloc, names, q, text);
         }
         if *first == b'\\' {
             let (_slash, behind) = split_first(text);
-            return self.slashed(alloc, q, behind);
+            return self.slashed(alloc, names, q, behind);
         }
         self.run(q, text)
     }
@@ -298,6 +302,7 @@ impl Said {
     pub fn item<'a>(
         &mut self,
         alloc: Global,
+        names: &mut Names,
         q: Quotes,
         text: &'a str,
     ) -> Result<Option<&'a str>, AllocError>
@@ -307,7 +312,7 @@ impl Said {
     {
         let (marks, behind) = split_lead(q, text);
         self.say(marks)?;
-        self.part(alloc, q, behind)
+        self.part(alloc, names, q, behind)
     }
 
     // Takes the part of a text without fields, and answers what is behind it.

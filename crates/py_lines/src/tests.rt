@@ -1,9 +1,8 @@
 // A file with a token of every kind. The lines, spellings and kinds that are wanted are those that Python 3.11's `tokenize` gives for the
 // same file; the pieces of f-texts are written by hand.
 use crate::{lines, literal_text};
-use py_lexer::{
-    Align, Convert, Form, LexFault, LogicalLine, Piece, Pieces, Spec, Token, TokenKind, Tokens,
-};
+use py_lexer::LexFault;
+use py_tokens::{Align, Convert, Form, LogicalLine, Piece, Pieces, Spec, Token, TokenKind, Tokens};
 use std::alloc::{AllocError, Global};
 use std::test::Fail;
 
@@ -305,5 +304,60 @@ fn says_what_texts_say(rt: HostRuntime) -> Result<(), Fail> {
     ] {
         assert_eq!(rt; told(alloc, spelling)?.as_str(), "no text");
     }
+    Ok(())
+}
+
+// The spelling of a name with its place, of a number with the number.
+fn put_kept(alloc: Global, text: &mut String, token: &Token) -> Result<(), AllocError> {
+    text.push_str(token.spelling.items())?;
+    if let Some(place) = token.spelling.place() {
+        let place = format!(in alloc; ":{place}")?;
+        text.push_str(place.as_str())?;
+    }
+    if let Some(number) = token.spelling.number() {
+        let number = format!(in alloc; "={number}")?;
+        text.push_str(number.as_str())?;
+    }
+    text.push_str(" ")
+}
+
+// The same of the tokens of its fields.
+fn put_kept_inside(alloc: Global, text: &mut String, pieces: &Pieces) -> Result<(), AllocError> {
+    for piece in pieces.items() {
+        if let Piece::Field { tokens, .. } = piece {
+            for token in tokens.items() {
+                put_kept(alloc, text, token)?;
+            }
+        }
+    }
+    Ok(())
+}
+
+fn kept_in(alloc: Global, lines: &[LogicalLine]) -> Result<String, AllocError> {
+    let mut text = String::new(alloc);
+    for line in lines {
+        for token in line.tokens.items() {
+            put_kept(alloc, &mut text, token)?;
+            if let TokenKind::FText(pieces) = &token.kind {
+                put_kept_inside(alloc, &mut text, pieces)?;
+            }
+        }
+    }
+    Ok(text)
+}
+
+// Names have the places 0, 1, 2 .. in the order in which they are met, also in fields, which stand behind their f-text here.
+#[test]
+fn keeps_places_and_numbers(rt: HostRuntime) -> Result<(), Fail> {
+    let alloc = rt.alloc();
+    let file =
+        b"def b(a):\n  c = f'{d} {a!r}{b[1_0]:>3}' + c.a\nb = 'a' * 0 == 12_000 != 170141183460469231731687303715884105727 or e\n";
+    let Ok(lines) = lines(alloc, file) else {
+        assert!(rt; false, "refused");
+        return Ok(());
+    };
+    let wanted =
+        "def:0 b:1 ( a:2 ) : c:3 = f'{d} {a!r}{b[1_0]:>3}' d:4 a:2 b:1 [ 1_0=10 ] + c:3 . a:2 b:1 = 'a' * 0=0 == 12_000=12000 != 170141183460469231731687303715884105727=170141183460469231731687303715884105727 or:5 e:6 ";
+    assert_eq!(rt; kept_in(alloc, lines.as_slice())?.as_str(), wanted);
     Ok(())
 }

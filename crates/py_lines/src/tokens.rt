@@ -6,30 +6,38 @@ ghost use Rattle.lexical_form.specs.PlainReader.{next_plain};
 ghost use Rattle.lexical_form.specs.TokenReader.{next, some_plain};
 ghost use Rattle.lexical_form.specs.Tokens as pure;
 ghost use Rattle.py_lexer.specs.ScanView.{seen};
-ghost use Rattle.py_lexer.specs.TokenView.{view_kind, view_piece_list, view_pieces, view_token};
+ghost use Rattle.py_tokens.specs.TokenView.{view_kind, view_piece_list, view_pieces, view_token};
 
 use crate::f_texts::{f_text, opened};
 use crate::plain_tokens::{owned, plain_at};
-use py_lexer::{Piece, Pieces, Token, TokenKind};
+use py_tokens::{Names, Piece, Pieces, Token, TokenKind};
 use py_tree::Spelling;
 use std::alloc::{AllocError, Global};
 
 /// The longest token at the front, and what is behind it; none where no token begins there (Python language reference, section 2.2).
-pub fn token(alloc: Global, text: &str) -> Result<Option<(Token, &str)>, AllocError>
+pub fn token<'a>(
+    alloc: Global,
+    names: &mut Names,
+    text: &'a str,
+) -> Result<Option<(Token, &'a str)>, AllocError>
     ensures longest { IfOk result (λ o. MatchOption (seen o) (NoToken text.now) (λ p. Longest text.now p.0 p.1)) }
     ensures text { IfOk result (λ o. IfSome o (λ p. IsUtf8 p.1.now)) }
 {
-    read(alloc, text)
+    read(alloc, names, text)
 }
 
-fn read(alloc: Global, text: &str) -> Result<Option<(Token, &str)>, AllocError>
+fn read<'a>(
+    alloc: Global,
+    names: &mut Names,
+    text: &'a str,
+) -> Result<Option<(Token, &'a str)>, AllocError>
     ensures reads { IfOk result (λ o. seen o ≡ next text.now) }
     ensures text { IfOk result (λ o. IfSome o (λ p. IsUtf8 p.1.now)) }
 {
     let Some((q, inside)) = opened(text.as_bytes()) else {
-        return plain(alloc, text);
+        return plain(alloc, names, text);
     };
-    let Some((pieces, len)) = f_text(alloc, q, text, inside)? else {
+    let Some((pieces, len)) = f_text(alloc, names, q, text, inside)? else {
         return Ok(None);
     };
     let (spelling, behind) = text.split_at(len);
@@ -38,14 +46,18 @@ fn read(alloc: Global, text: &str) -> Result<Option<(Token, &str)>, AllocError>
 }
 
 // The token at the front that holds no other tokens.
-fn plain(alloc: Global, text: &str) -> Result<Option<(Token, &str)>, AllocError>
+fn plain<'a>(
+    alloc: Global,
+    names: &mut Names,
+    text: &'a str,
+) -> Result<Option<(Token, &'a str)>, AllocError>
     ensures reads { IfOk result (λ o. seen o ≡ some_plain (next_plain text.now)) }
     ensures text { IfOk result (λ o. IfSome o (λ p. IsUtf8 p.1.now)) }
 {
     let Some((kind, spelling, behind)) = plain_at(text) else {
         return Ok(None);
     };
-    let token = owned(alloc, kind, spelling)?;
+    let token = owned(alloc, names, kind, spelling)?;
     Ok(Some((token, behind)))
 }
 

@@ -1,7 +1,7 @@
 -- What is cut off is the f-text at the front.
 use Rattle.std.proofs.Common.{◌∙◌, ℕ, ◌-◌, List, length, ap, subst}
 use Rattle.std.specs.Prelude.{map}
-use Rattle.py_lexer.specs.TokenView.{view_piece}
+use Rattle.py_tokens.specs.TokenView.{view_piece}
 use Rattle.py_lexer.specs.Views.{quotes}
 use Rattle.py_lines.specs.PieceView.{built}
 use Rattle.py_lines.specs.PiecesRead.{PiecesRead}

@@ -1,6 +1,6 @@
 // Tokens.
 ghost use Rattle.std.specs.Prelude.{◌≡◌};
-ghost use Rattle.py_lexer.specs.TokenView.{view_pieces, view_piece_list, view_tokens, view_token_list, token_list};
+ghost use Rattle.py_tokens.specs.TokenView.{view_pieces, view_piece_list, view_tokens, view_token_list, token_list};
 
 use crate::spec::Spec;
 use py_tree::{Row, Spelling};

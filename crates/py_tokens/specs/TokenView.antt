@@ -1,15 +1,17 @@
 -- Tokens of the code, seen as pure data.
 use Rattle.std.specs.Prelude.{List, map, option_map}
+use Rattle.lexical_form.specs.Lines as lines
 use Rattle.lexical_form.specs.Tokens as pure
-use Rattle.py_lexer.specs.declared.token.Convert.{Convert}
-use Rattle.py_lexer.specs.declared.token.Convert.TheVariants as convert
-use Rattle.py_lexer.specs.Views.{view_spec}
-use Rattle.py_lexer.specs.declared.token.Piece.{Piece, fold-Piece}
-use Rattle.py_lexer.specs.declared.token.Piece.TheOpen.{Piece-F, Pieces-F, Token-F, TokenKind-F, Tokens-F}
-use Rattle.py_lexer.specs.declared.token.Pieces.{Pieces, fold-Pieces}
-use Rattle.py_lexer.specs.declared.token.Token.{Token, fold-Token}
-use Rattle.py_lexer.specs.declared.token.TokenKind.{TokenKind, fold-TokenKind}
-use Rattle.py_lexer.specs.declared.token.Tokens.{Tokens, fold-Tokens, out-Tokens}
+use Rattle.py_tokens.specs.declared.line.LogicalLine.{LogicalLine}
+use Rattle.py_tokens.specs.declared.token.Convert.{Convert}
+use Rattle.py_tokens.specs.declared.token.Convert.TheVariants as convert
+use Rattle.py_tokens.specs.SpecView.{view_spec}
+use Rattle.py_tokens.specs.declared.token.Piece.{Piece, fold-Piece}
+use Rattle.py_tokens.specs.declared.token.Piece.TheOpen.{Piece-F, Pieces-F, Token-F, TokenKind-F, Tokens-F}
+use Rattle.py_tokens.specs.declared.token.Pieces.{Pieces, fold-Pieces}
+use Rattle.py_tokens.specs.declared.token.Token.{Token, fold-Token}
+use Rattle.py_tokens.specs.declared.token.TokenKind.{TokenKind, fold-TokenKind}
+use Rattle.py_tokens.specs.declared.token.Tokens.{Tokens, fold-Tokens, out-Tokens}
 
 abbrev pub view_convert : Convert → pure.Convert
 view_convert convert.Plain = pure.as_is
@@ -59,3 +61,6 @@ view_piece_list ps = pure.pieces_of (map view_piece ps)
 
 abbrev pub token_list : Tokens → List Token
 token_list ts = (out-Tokens ts).tokens
+
+abbrev pub view_line : LogicalLine → lines.Line
+view_line l = record { line = l.line; indent = l.indent; tokens = map view_token (token_list l.tokens) }

@@ -1,0 +1,2 @@
+-- for `Names::place`
+pub mod Places
