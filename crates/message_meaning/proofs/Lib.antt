@@ -1,3 +1,4 @@
 mod Computing
 mod Ordered
+mod Repeating
 pub mod Shapes

@@ -1,4 +1,5 @@
 pub mod Computed
 pub mod Messages
 pub mod Order
+pub mod Repeats
 pub mod Samples

@@ -8,7 +8,11 @@ ghost use Rattle.messages.specs.declared.message.SetItem.{SetItem};
 ghost use Rattle.message_meaning.specs.Computed.{message_in};
 ghost use Rattle.message_meaning.specs.Messages.{IsMessage, Says, number_in};
 ghost use Rattle.message_meaning.specs.Order.{Ascend};
-ghost use Rattle.serde_json.specs.Data.{Data};
+ghost use Rattle.message_meaning.specs.Repeats.{last_value};
+ghost use Rattle.json.specs.Json as json;
+ghost use Rattle.serde_json.specs.Data.{Data, Members, no_members};
+ghost use Rattle.serde_json.specs.Find.{get_member};
+ghost use Rattle.serde_json.specs.Read.{of_members};
 
 /// No bytes are two messages.
 pub fn messages_are_read_one_way()
@@ -18,6 +22,12 @@ pub fn messages_are_read_one_way()
 /// The names that a message sets stand in the order of their bytes, so each stands once.
 pub fn names_in_order()
     ensures ascend { (bytes : List ℕ) (items : List SetItem) → IsMessage bytes (Set items) → Ascend items }
+{}
+
+/// Of the values that a text gives one name in an object, the last one counts.
+pub fn last_value_counts()
+    ensures last { (js : json.Members) (ms : Members) (k : List ℕ)
+        → of_members js no_members ≡ Some ms → get_member k ms ≡ last_value k js }
 {}
 
 /// The message that a value says can be computed.
