@@ -36,12 +36,13 @@ impl Side {
     }
 }
 
-// What both did, and whether one gave up waiting for the other.
+// What both did, and whether one gave up waiting for the other, or passed the gate with another number than its door's.
 #[derive(Drop)]
 struct Board {
     first: Side,
     second: Side,
     gave_up: AtomicBool,
+    left_unserved: AtomicBool,
 }
 
 impl Board {
@@ -50,6 +51,7 @@ impl Board {
             first: Side::new(),
             second: Side::new(),
             gave_up: AtomicBool::new(false),
+            left_unserved: AtomicBool::new(false),
         }
     }
 
@@ -95,10 +97,11 @@ impl Gate for HoldingGate<'_> {
     }
 
     fn leave(&self, worker: u32, _turn: u32) {
-        self.board
-            .own(worker)
-            .has_left
-            .store(true, Ordering::SeqCst);
+        let own = self.board.own(worker);
+        if !own.was_sent.load(Ordering::SeqCst) {
+            self.board.left_unserved.store(true, Ordering::SeqCst);
+        }
+        own.has_left.store(true, Ordering::SeqCst);
     }
 }
 
@@ -222,6 +225,7 @@ fn serves_visitors_side_by_side(rt: HostRuntime) -> Result<(), Fail> {
         };
         let report = served(&rt, rt.alloc(), &notebook, &gate, meets)?;
         assert!(rt; !board.gave_up.load(Ordering::SeqCst));
+        assert!(rt; !board.left_unserved.load(Ordering::SeqCst));
         assert_eq!(rt; (report.visitors, report.closed), (2, 2));
     }
     Ok(())
