@@ -13,12 +13,10 @@ def visit(port, length, barrier, pipe):
     trips, times, clock = Trips(port), array.array("Q"), time.perf_counter_ns
     trips.sets(WARM)
     barrier.wait()
-    start = now = clock()
-    while now < start + length * 1e9:
-        trips.sets(1)
-        before, now = now, clock()
-        times.append(now - before)
-    pipe.send((times, now - start))
+    start = clock()
+    while clock() < start + length * 1e9:
+        times.append(trips.set())
+    pipe.send((times, clock() - start))
     trips.left().end()
 
 

@@ -1,5 +1,6 @@
 """A light visitor of examples/sliders.py: one send and one read for each answer, over cases/visitor.py."""
-import pathlib, select, socket, sys
+import pathlib, socket, struct, sys
+from time import perf_counter_ns
 
 sys.dont_write_bytecode = True
 sys.path.insert(0, str(pathlib.Path(__file__).resolve().parent.parent / "cases"))
@@ -22,22 +23,27 @@ class Trips:
         same([self.size] * len(self.pairs), [len(wanted) for _, wanted in self.pairs])
         # The system wakes the visitor once for each answer, when all of it is there.
         self.came.socket.setsockopt(socket.SOL_SOCKET, socket.SO_RCVLOWAT, self.size)
-        self.came.socket.setblocking(False)
-        self.poll, self.buffer, self.place = select.poll(), bytearray(self.size), 0
-        self.poll.register(self.came.socket, select.POLLIN)
+        self.came.socket.setsockopt(socket.SOL_SOCKET, socket.SO_RCVTIMEO, struct.pack("@ll", SECONDS, 0))
+        self.came.socket.settimeout(None)
+        self.buffer, self.place = bytearray(self.size), 0
+
+    def set(self):
+        """Sets a value, looks at each byte of the answer, and gives the nanoseconds from the sending to the whole answer."""
+        asked, wanted = self.pairs[self.place % len(self.pairs)]
+        self.place += 1
+        send, receive, buffer = self.came.socket.send, self.came.socket.recv_into, self.buffer
+        start = perf_counter_ns()
+        send(asked)
+        got = receive(buffer)
+        end = perf_counter_ns()
+        if got != self.size or buffer != wanted:
+            raise AssertionError(f"wanted {wanted!r}, and got {bytes(buffer[:got])!r}")
+        return end - start
 
     def sets(self, count):
-        """Sets so many values one after the other, and looks at each answer."""
-        send, poll, receive = self.came.socket.send, self.poll.poll, self.came.socket.recv_into
-        buffer, size = self.buffer, self.size
+        """Sets so many values one after the other."""
         for _ in range(count):
-            asked, wanted = self.pairs[self.place % len(self.pairs)]
-            self.place += 1
-            send(asked)
-            poll(SECONDS * 1000)
-            got = receive(buffer)
-            if got != size or buffer != wanted:
-                raise AssertionError(f"wanted {wanted!r}, and got {bytes(buffer[:got])!r}")
+            self.set()
 
     def left(self):
         """The visitor behind the last answer, who reads as any other."""
