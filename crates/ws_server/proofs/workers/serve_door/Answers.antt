@@ -1,6 +1,5 @@
 -- One turn more.
-use Rattle.std.proofs.Common.{◌≡◌, ◌∙◌, refl, sym, ap, subst, ◌+◌, ◌-◌, ◌^◌, ◌≤◌, min, arith, false}
-use Rattle.link_io.specs.declared.answers.Accepted.TheVariants as accepted
+use Rattle.std.proofs.Common.{◌≡◌, ◌∙◌, refl, sym, subst, ◌+◌, ◌-◌, ◌^◌, ◌≤◌, min, arith, false}
 use Rattle.py_tree.specs.View.{view_cells}
 use Rattle.ws_server.proofs.Shares.{IsPart, doors_more, empty_rests, none_waits, part_bounded, part_ends, part_more, part_none, part_rests, most_memory, part_small, rose_some, used_up}
 use Rattle.ws_server.specs.Visitors.{alone_in}
