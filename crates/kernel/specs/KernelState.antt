@@ -1,6 +1,6 @@
 -- What a kernel keeps of its visitor, and what is known of it.
-use Rattle.std.specs.Prelude.{◌≡◌, ℕ, ◌<◌, Bool, true, false, not, if◌then◌else◌, All, List, [], length, replicate, None}
-use Rattle.visit_meaning.specs.Answer.{State, Before, On}
+use Rattle.std.specs.Prelude.{◌≡◌, ℕ, ◌<◌, Bool, not, All, List, [], length, replicate, None}
+use Rattle.visit_meaning.specs.Answer.{State, Before, On, Ended}
 use Rattle.graph_meaning.specs.Graph.{NoneCyclic, NoneDoubled}
 use Rattle.run_meaning.specs.Meaning.{Env, Flow}
 use Rattle.run_meaning.specs.Spending.{Spending, runs}
@@ -18,21 +18,25 @@ use Rattle.kernel.specs.Pending.{left_of, parts_of, IsWithin}
 use Rattle.kernel.specs.Visit.{Visit, newest_in}
 use Rattle.kernel.specs.declared.pending.Pending.TheVariants as pending
 use Rattle.kernel.specs.declared.state.KernelState.{KernelState}
+use Rattle.kernel.specs.declared.state.Phase.{Phase}
+use Rattle.kernel.specs.declared.state.Phase.TheVariants as phases
 
 -- no name with a leading underscore is bound
 abbrev pub IsPlain : Env → Type 0
 IsPlain env = where_name (λ x. not (is_local x)) env ≡ env
 
 -- the state of the visitor
-abbrev pub state_of : Bool → Map Value → State
-state_of on ui = if on then On ui else Before
+abbrev pub state_of : Phase → Map Value → State
+state_of phases.Before ui = Before
+state_of phases.On ui = On ui
+state_of phases.Ended ui = Ended
 
 -- the visit that is kept
 abbrev pub visit_of : Bool → KernelState → Visit
 visit_of spoiled s = record {
   nb = s.notebook.now;
   budget = s.budget;
-  state = state_of s.on s.present;
+  state = state_of s.phase s.present;
   pending = parts_of (view_cells s.notebook.now) s.budget s.present s.pending;
   env = s.env;
   newest = s.newest.items;
@@ -52,10 +56,16 @@ pub record IsAfter (s : KernelState) : Type 0 where
   pub values : HasNoElements s.present
   pub going : Going (view_cells s.notebook.now) s.budget s.present (left_of s.pending) s.env (newest_in s.newest.items)
 
--- one of these, by whether the notebook is open
-abbrev pub StandsBy : Bool → KernelState → Type 0
-StandsBy true s = IsAfter s
-StandsBy false s = IsBefore s
+-- When the visit is closed, no results are to come, and no value is kept.
+pub record IsOver (s : KernelState) : Type 0 where
+  pub present : s.present ≡ []
+  pub left : left_of s.pending ≡ []
+
+-- one of these, by how far the visit is
+abbrev pub StandsBy : Phase → KernelState → Type 0
+StandsBy phases.Before s = IsBefore s
+StandsBy phases.On s = IsAfter s
+StandsBy phases.Ended s = IsOver s
 
 -- what is known of what a kernel keeps
 pub record IsKept (s : KernelState) : Type 0 where
@@ -66,13 +76,13 @@ pub record IsKept (s : KernelState) : Type 0 where
   pub plain : IsPlain s.env
   pub cells : All (λ c. c < length s.notebook.now) (left_of s.pending)
   pub within : IsWithin s.pending
-  pub stands : StandsBy s.on s
+  pub stands : StandsBy s.phase s
 
 -- what is kept at the beginning
 pub record IsNew (nb : List CellCode) (budget : ℕ) (s : KernelState) : Type 0 where
   pub notebook : s.notebook.now ≡ nb
   pub budget_is : s.budget ≡ budget
-  pub on : s.on ≡ false
+  pub phase : s.phase ≡ phases.Before
   pub present : s.present ≡ []
   pub env : s.env ≡ []
   pub newest : s.newest.items ≡ replicate (length nb) None

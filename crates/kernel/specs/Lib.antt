@@ -1,6 +1,5 @@
 pub mod Calls
 pub mod CellRun
 pub mod KernelState
-pub mod Message
 pub mod Pending
 pub mod Visit

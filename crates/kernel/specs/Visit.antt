@@ -1,8 +1,10 @@
 -- Visits as contracts see them, and what a delivery and a step do.
-use Rattle.std.specs.Prelude.{◌≡◌, ℕ, ◌+◌, ◌<◌, ◌≤◌, Bool, true, false, List, [], ◌∷◌, find, length, replicate, set, slice_index_or, Option, Some, None, ◌==◌}
-use Rattle.visit_meaning.specs.Answer.{State, Before, On, Message, Part, answer, refused}
+use Rattle.std.specs.Prelude.{◌≡◌, ◌⊎◌, ℕ, ◌+◌, ◌<◌, ◌≤◌, Bool, true, false, List, [], ◌∷◌, find, length, replicate, set, slice_index_or, Option, Some, None, ◌==◌}
+use Rattle.messages.specs.declared.message.Message.{Message}
+use Rattle.messages.specs.declared.message.Message.TheVariants.{Close}
+use Rattle.message_meaning.specs.Messages.{IsReceived}
+use Rattle.visit_meaning.specs.Answer.{State, Before, On, Ended, Part, answer, refused}
 use Rattle.run_meaning.specs.Meaning.{Env}
-use Rattle.visit_meaning.specs.Messages.{IsMessage}
 use Rattle.visit_meaning.specs.Whole.{whole}
 use Rattle.frames.specs.declared.frame.CellFrame.{CellFrame}
 use Rattle.frames.specs.declared.frame.Frame.{Frame}
@@ -37,23 +39,23 @@ begun nb budget = record { nb = nb; budget = budget; state = Before; pending = [
 
 -- the present values of a state
 abbrev pub present_in : State → Map Value
-present_in Before = []
 present_in (On ui) = ui
+present_in state = []
 
 -- The bindings and the newest frames are those of the whole notebook when it runs from nothing with these present values.
 pub record IsWhole (v : Visit) (ui : Map Value) : Type 0 where
   pub env : v.env ≡ (whole (view_cells v.nb) v.budget ui).env
   pub newest : (c : ℕ) → c < length v.nb → newest_in v.newest c ≡ find (λ (f : CellFrame). f.cell == c) (whole (view_cells v.nb) v.budget ui).frames
 
--- What stands where memory wasn't wanting and no frame is to come: no cell has a frame before the opening, and from then on all are as
--- when the whole notebook runs from nothing.
+-- What stands where memory wasn't wanting and no frame is to come: no cell has a frame before the opening, and from then on, while the visit
+-- isn't closed, all are as when the whole notebook runs from nothing. A closed visit is as it was before (`closed`).
 pub record Stands (v : Visit) : Type 0 where
   pub before : v.state ≡ Before → (c : ℕ) → newest_in v.newest c ≡ None
   pub on : (ui : Map Value) → v.state ≡ On ui → v.pending ≡ [] → IsWhole v ui
 
 -- A message is taken: the state and what is to come are those of its answer. No newest frame changes, and where the message is refused
 -- no binding does; of the bindings after another message nothing is said here.
-pub record Takes (m : Message) (before after : Visit) : Type 0 where
+pub record Takes (m : Option Message) (before after : Visit) : Type 0 where
   pub state : after.state ≡ (answer (view_cells before.nb) before.budget before.state m).state
   pub pending : after.pending ≡ (answer (view_cells before.nb) before.budget before.state m).parts
   pub newest : after.newest ≡ before.newest
@@ -62,10 +64,21 @@ pub record Takes (m : Message) (before after : Visit) : Type 0 where
   pub budget : after.budget ≡ before.budget
   pub spoiled : after.spoiled ≡ false
 
--- What a delivery does. While frames are to come it tells their number and changes nothing; else the message is taken.
+-- no answer is given: the message is a close message, or an earlier one was
+abbrev pub IsClosed : State → Option Message → Type 0
+IsClosed state m = (state ≡ Ended) ⊎ (m ≡ Some Close)
+
+-- a visit that a close message ended
+abbrev pub closed : Visit → Visit
+closed v = record v { state = Ended }
+
+-- What a delivery does. While frames are to come it tells their number and changes nothing; else the message is taken, or it closes the visit.
 abbrev pub IsDelivery : List ℕ → Visit → Visit → Delivered → Type 0
 IsDelivery bytes before after (delivered.Busy pending) = (0 < length before.pending) × (pending ≡ length before.pending) × (after ≡ before)
-IsDelivery bytes before after delivered.Taken = (before.pending ≡ []) × ((m : Message) × IsMessage bytes m × Takes m before after)
+IsDelivery bytes before after delivered.Taken =
+    (before.pending ≡ []) × ((m : Option Message) × IsReceived bytes m × (IsClosed before.state m → ⊥) × Takes m before after)
+IsDelivery bytes before after delivered.Closed =
+    (before.pending ≡ []) × ((m : Option Message) × IsReceived bytes m × IsClosed before.state m × (after ≡ closed before))
 
 -- the newest frames after one that is given
 abbrev pub with_frame : Frame → List (Option CellFrame) → List (Option CellFrame)

@@ -6,6 +6,8 @@ use frames::Frame;
 pub enum Delivered {
     /// The message is taken; the frames of its answer are to come.
     Taken,
+    /// The message closes the visit, or an earlier one did; no answer is given.
+    Closed,
     /// Frames of an earlier answer are still to come, so many; nothing was changed.
     Busy { pending: u32 },
 }

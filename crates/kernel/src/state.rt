@@ -16,13 +16,24 @@ use py_value::Memory;
 use std::alloc::Global;
 use ui_elements::Present;
 
-/// What a kernel keeps of its visitor: whether the notebook is open, the present values that were set, what names are bound to, the
+/// How far a visit is.
+#[derive(Clone, Copy)]
+pub enum Phase {
+    /// The notebook isn't open yet.
+    Before,
+    /// The notebook is open.
+    On,
+    /// A close message ended the visit.
+    Ended,
+}
+
+/// What a kernel keeps of its visitor: how far the visit is, the present values that were set, what names are bound to, the
 /// newest frame of each cell, and what is still to come of the answer to the last message.
 #[derive(Drop)]
 pub struct KernelState<'n> {
     pub notebook: &'n Notebook,
     pub budget: u64,
-    pub on: bool,
+    pub phase: Phase,
     pub present: Present,
     pub env: Env,
     pub newest: Vec<Option<CellFrame>>,
@@ -47,7 +58,7 @@ impl<'n> KernelState<'n> {
         Ok(KernelState {
             notebook,
             budget,
-            on: false,
+            phase: Phase::Before,
             present: Present::new(alloc),
             env: Env::new(alloc),
             newest,

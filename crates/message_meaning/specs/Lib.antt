@@ -3,3 +3,4 @@ pub mod Messages
 pub mod Order
 pub mod Repeats
 pub mod Samples
+pub mod Sent

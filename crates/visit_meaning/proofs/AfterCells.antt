@@ -2,6 +2,8 @@
 use Rattle.std.proofs.Common.{◌≡◌, ◌∙◌, refl, sym, ap, subst, ℕ, ◌<◌, true, cond, ◌==◌, List, [], ◌∷◌, ◌++◌, length, Option, Some, slice_get}
 use Rattle.std.specs.Prelude.{flat_map}
 use Rattle.std.proofs.lemmas.Bool.{eq-eqb, or_left, or_right}
+use Rattle.messages.specs.declared.message.Message.TheVariants.{Set}
+use Rattle.messages.specs.declared.message.SetItem.{SetItem}
 use Rattle.py_tree.specs.Names.{Name}
 use Rattle.py_tree.specs.Trees.{Cell}
 use Rattle.py_value.specs.Maps.{Map}
@@ -9,8 +11,8 @@ use Rattle.py_value.specs.declared.types.Value.{Value}
 use Rattle.frames.specs.declared.frame.CellFrame.{CellFrame}
 use Rattle.graph_meaning.specs.Graph.{is_in, order}
 use Rattle.graph_meaning.specs.Reruns.{is_within, rerun}
-use Rattle.visit_meaning.specs.Answer.{On, Set, answer, counted, names_of, present_after, results_of}
-use Rattle.visit_meaning.specs.Rerun.{AllSet, IsAfresh, Kept, after_cells, after_code, after_outcome, given_by, given_by_code, nothing_bound, with_values}
+use Rattle.visit_meaning.specs.Answer.{On, answer, counted, names_of, present_after, results_of, values_sent}
+use Rattle.visit_meaning.specs.Rerun.{AllSent, IsAfresh, Kept, after_cells, after_code, after_outcome, given_by, given_by_code, nothing_bound, with_values}
 use Rattle.visit_meaning.specs.Underway.{Going, HasNoElements, outcome_now}
 use Rattle.visit_meaning.specs.Whole.{Outcome}
 use Rattle.graph_meaning.proofs.Orders.{places_below}
@@ -19,7 +21,7 @@ use Rattle.visit_meaning.proofs.FixedPoint.{code_there}
 use Rattle.visit_meaning.proofs.Going.{Runs, going_next, going_opens, next_result}
 use Rattle.visit_meaning.proofs.InOrder.{in_all}
 use Rattle.visit_meaning.proofs.ResultsOf.{results_one_by_one}
-use Rattle.visit_meaning.proofs.SetValues.{none_unfit, none_unknown}
+use Rattle.visit_meaning.proofs.SentValues.{none_unfit, none_unknown, sent_set}
 use Rattle.visit_meaning.proofs.Standing.{answered, sets_going, stands}
 
 -- the cells are cells of the notebook
@@ -74,24 +76,30 @@ module _ (nb : List Cell) (budget : ℕ) (ui : Map Value) (runs : Runs nb) where
 rerun_there : (nb : List Cell) (names : List Name) → AreThere nb (rerun nb names)
 rerun_there nb names c on = places_below nb (length nb) c (in_all (is_within nb names (length nb)) c (order nb) on)
 
-module _ (nb : List Cell) (budget : ℕ) (ui sets : Map Value) (kept : Kept) (runs : Runs nb) (afresh : IsAfresh nb budget ui kept)
-    (all : AllSet kept.env sets) where
+module _ (nb : List Cell) (budget : ℕ) (ui : Map Value) (items : List SetItem) (kept : Kept) (runs : Runs nb) (afresh : IsAfresh nb budget ui kept)
+    (all : AllSent kept.env items) where
+  abbrev sets : Map Value
+  sets = values_sent items
+
   abbrev present : Map Value
   present = present_after nb kept.env ui sets
 
   abbrev again : List ℕ
   again = rerun nb (names_of sets)
 
+  going : Going nb budget present again (with_values sets kept).env kept.newest
+  going = sets_going afresh sets runs (sent_set kept.env items all)
+
   -- The cells that run again lead to what is computed afresh,
   pub rerun_afresh : IsAfresh nb budget present (after_cells nb budget present again (with_values sets kept))
   rerun_afresh = stands (next_plain nb kept.env ui sets afresh.plain)
-      (going_through nb budget present runs again (with_values sets kept) (rerun_there nb (names_of sets)) (sets_going afresh sets runs all))
+      (going_through nb budget present runs again (with_values sets kept) (rerun_there nb (names_of sets)) going)
 
   -- and give the answer.
-  pub rerun_answers : answer nb budget (On ui) (Set sets)
+  pub rerun_answers : answer nb budget (On ui) (Some (Set items))
       ≡ record { state = On present; parts = counted (given_by nb budget present again (with_values sets kept)) }
   rerun_answers =
-      answered afresh sets (none_unknown kept.env sets all) (none_unfit kept.env sets all)
+      answered afresh items (none_unknown kept.env items all) (none_unfit kept.env items all)
       ∙ ap (λ parts. record { state = On present; parts = counted parts })
       (results_one_by_one nb budget present (is_within nb (names_of sets) (length nb))
-      ∙ sym (given_are nb budget present runs again (with_values sets kept) (rerun_there nb (names_of sets)) (sets_going afresh sets runs all)))
+      ∙ sym (given_are nb budget present runs again (with_values sets kept) (rerun_there nb (names_of sets)) going))

@@ -15,6 +15,7 @@ pub mod OneByOne
 pub mod Going
 -- Values that are set, and the elements that are in being.
 pub mod SetValues
+pub mod SentValues
 pub mod InBeing
 pub mod AtKept
 -- For `rerun_suffices`: where only the cells that run again run.
@@ -23,5 +24,3 @@ pub mod Standing
 pub mod AfterCells
 -- For `elements_in_being`.
 pub mod PresentValues
--- For `messages_are_read_one_way`.
-pub mod MessageTexts

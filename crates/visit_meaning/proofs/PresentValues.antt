@@ -4,6 +4,9 @@ use Rattle.std.specs.Prelude.{flat_map, option_and_then}
 use Rattle.std.specs.Str.{bytes_eq}
 use Rattle.std.proofs.lemmas.Bool.{both_ways, cases_Bool, eqb-true, false_from_ne_true, or_cases}
 use Rattle.std.proofs.lemmas.Option.{cond_some, none-some, same_Some}
+use Rattle.messages.specs.declared.message.Message.{Message}
+use Rattle.messages.specs.declared.message.Message.TheVariants.{Open, Set, Close}
+use Rattle.messages.specs.declared.message.SetItem.{SetItem}
 use Rattle.py_tree.specs.Names.{Name, is_among}
 use Rattle.py_tree.specs.Trees.{Cell}
 use Rattle.py_value.specs.ElementData.{ElementData, with_present}
@@ -18,7 +21,7 @@ use Rattle.py_value.specs.declared.types.Value.{Value}
 use Rattle.py_value.specs.declared.types.Value.TheVariants as V
 use Rattle.py_value.proofs.Levels.{data_of-value_of}
 use Rattle.py_value.proofs.SortedMaps.{look_up-where_name}
-use Rattle.visit_meaning.specs.Answer.{State, Before, On, Message, Open, Set, Other, answer, answer_by, element_in, named_so, names_of, present_after, state_after, value_set, with_sets}
+use Rattle.visit_meaning.specs.Answer.{State, Before, On, Ended, answer, answer_by, element_in, first_unfit, first_unknown, named_so, names_of, present_after, state_after, value_set, values_sent, with_sets}
 use Rattle.graph_meaning.specs.Graph.{elements_of, is_in}
 use Rattle.run_meaning.specs.Meaning.{Env}
 use Rattle.graph_meaning.specs.Reruns.{rerun}
@@ -33,7 +36,8 @@ use Rattle.visit_meaning.proofs.InBeing.{creator}
 use Rattle.visit_meaning.proofs.InOrder.{definer_below}
 use Rattle.visit_meaning.proofs.LookUps.{among_left, among_right}
 use Rattle.visit_meaning.proofs.RerunSuffices.{AreTaken, unchanged}
-use Rattle.visit_meaning.proofs.SetValues.{SameButPresent, no_element, all_set, laid_at, same_element, set_there, sets_passed, value_alike}
+use Rattle.visit_meaning.proofs.SentValues.{all_sent, sent_set}
+use Rattle.visit_meaning.proofs.SetValues.{SameButPresent, no_element, laid_at, same_element, set_there, sets_passed, value_alike}
 use Rattle.visit_meaning.proofs.SetValues as setting
 use Rattle.py_value.proofs.Computes.{a_number}
 
@@ -150,36 +154,41 @@ module _ (nb : List Cell) (budget : ℕ) (ui sets : Map Value) (taken : AreTaken
 
 -- the present values of the state are no elements, and elements in being admit them
 abbrev IsSettled : List Cell → ℕ → State → Type 0
-IsSettled nb budget Before = Unit {0}
 IsSettled nb budget (On ui) = HasNoElements ui × AreAdmitted (whole nb budget ui).env ui
+IsSettled nb budget state = Unit {0}
 
-settled_by : (nb : List Cell) (budget : ℕ) (ui sets : Map Value) → Runs nb → IsSettled nb budget (On ui)
-    → (unknown unfit : Option (Name × Value)) → find (λ (s : Name × Value). is_none (value_set (whole nb budget ui).env s)) sets ≡ unfit
-    → IsSettled nb budget (answer_by nb budget (whole nb budget ui).env ui sets unknown unfit).state
-settled_by nb budget ui sets runs settled (Some s) unfit e = settled
-settled_by nb budget ui sets runs settled None (Some s) e = settled
-settled_by nb budget ui sets runs settled None None e =
-    let taken : AreTaken nb budget ui sets = record { runs = runs; plain = settled.0; all = all_set (whole nb budget ui).env sets e } in
-    (next_plain nb (whole nb budget ui).env ui sets settled.0, next_admitted nb budget ui sets taken settled.1)
+settled_by : (nb : List Cell) (budget : ℕ) (ui : Map Value) (items : List SetItem) → Runs nb → IsSettled nb budget (On ui)
+    → (unknown unfit : Option SetItem) → first_unfit (whole nb budget ui).env items ≡ unfit
+    → IsSettled nb budget (answer_by nb budget (whole nb budget ui).env ui (values_sent items) unknown unfit).state
+settled_by nb budget ui items runs settled (Some i) unfit e = settled
+settled_by nb budget ui items runs settled None (Some i) e = settled
+settled_by nb budget ui items runs settled None None e =
+    let env : Env = (whole nb budget ui).env in
+    let sets : Map Value = values_sent items in
+    let taken : AreTaken nb budget ui sets = record { runs = runs; plain = settled.0; all = sent_set env items (all_sent env items e) } in
+    (next_plain nb env ui sets settled.0, next_admitted nb budget ui sets taken settled.1)
 
-settled_next : (nb : List Cell) (budget : ℕ) (state : State) (m : Message) → Runs nb → IsSettled nb budget state
+settled_next : (nb : List Cell) (budget : ℕ) (state : State) (m : Option Message) → Runs nb → IsSettled nb budget state
     → IsSettled nb budget (answer nb budget state m).state
-settled_next nb budget Before Open runs settled = (none_kept, λ x v h. absurd (none-some v h))
-settled_next nb budget Before (Set sets) runs settled = tt
-settled_next nb budget Before Other runs settled = tt
-settled_next nb budget (On ui) Open runs settled = settled
-settled_next nb budget (On ui) (Set sets) runs settled =
-    settled_by nb budget ui sets runs settled (find (λ (s : Name × Value). is_none (element_in (whole nb budget ui).env s.0)) sets)
-    (find (λ (s : Name × Value). is_none (value_set (whole nb budget ui).env s)) sets) refl
-settled_next nb budget (On ui) Other runs settled = settled
+settled_next nb budget Ended m runs settled = tt
+settled_next nb budget Before None runs settled = tt
+settled_next nb budget Before (Some Open) runs settled = (none_kept, λ x v h. absurd (none-some v h))
+settled_next nb budget Before (Some (Set items)) runs settled = tt
+settled_next nb budget Before (Some Close) runs settled = tt
+settled_next nb budget (On ui) None runs settled = settled
+settled_next nb budget (On ui) (Some Open) runs settled = settled
+settled_next nb budget (On ui) (Some (Set items)) runs settled =
+    let env : Env = (whole nb budget ui).env in
+    settled_by nb budget ui items runs settled (first_unknown env items) (first_unfit env items) refl
+settled_next nb budget (On ui) (Some Close) runs settled = tt
 
-settled_after : (nb : List Cell) (budget : ℕ) (state : State) (ms : List Message) → Runs nb → IsSettled nb budget state
+settled_after : (nb : List Cell) (budget : ℕ) (state : State) (ms : List (Option Message)) → Runs nb → IsSettled nb budget state
     → IsSettled nb budget (state_after nb budget state ms)
 settled_after nb budget state [] runs settled = settled
 settled_after nb budget state (m ∷ ms) runs settled =
     settled_after nb budget (answer nb budget state m).state ms runs (settled_next nb budget state m runs settled)
 
 -- So are those that a visitor's messages leave.
-pub settled : (nb : List Cell) (budget : ℕ) (ms : List Message) (ui : Map Value) → Runs nb → state_after nb budget Before ms ≡ On ui
+pub settled : (nb : List Cell) (budget : ℕ) (ms : List (Option Message)) (ui : Map Value) → Runs nb → state_after nb budget Before ms ≡ On ui
     → HasNoElements ui × AreAdmitted (whole nb budget ui).env ui
 settled nb budget ms ui runs e = subst (IsSettled nb budget) e (settled_after nb budget Before ms runs tt)

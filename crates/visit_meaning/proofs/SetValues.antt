@@ -31,33 +31,9 @@ abbrev pub laid_by : Env → Map Value → Env → Env
 laid_by before [] env = env
 laid_by before (s ∷ sets) env = laid_by before sets (with_element s.0 (element_in before s.0) (value_set before s) env)
 
-some_or_none : {A : Type 0} (o : Option A) → is_none o ≡ false → (a : A) × (o ≡ Some a)
-some_or_none None h = absurd (both_ways true h refl)
-some_or_none (Some a) h = (a, refl)
-
--- each of the values is admitted by its element where the message isn't refused
-pub all_set : (env : Env) (sets : Map Value) → find (λ (s : Name × Value). is_none (value_set env s)) sets ≡ None → AllSet env sets
-all_set env [] e = tt
-all_set env (s ∷ sets) e = ⊎_elim
-    (λ yes. let bad : Some s ≡ None = rw yes at e in absurd (none-some s (sym bad)))
-    (λ no. (some_or_none (value_set env s) no, all_set env sets (rw no at e)))
-    (cases_Bool (is_none (value_set env s)))
-
--- and the message is refused where one isn't
-pub none_unfit : (env : Env) (sets : Map Value) → AllSet env sets → find (λ (s : Name × Value). is_none (value_set env s)) sets ≡ None
-none_unfit env [] all = refl
-none_unfit env (s ∷ sets) all =
-    ap (λ o. cond (is_none o) (Some s) (find (λ (s : Name × Value). is_none (value_set env s)) sets)) all.0.1 ∙ none_unfit env sets all.1
-
 -- an element that admits a value is there
-element_there : (env : Env) (s : Name × Value) (d : Data) → value_set env s ≡ Some d → (e : ElementData) × (element_in env s.0 ≡ Some e)
+pub element_there : (env : Env) (s : Name × Value) (d : Data) → value_set env s ≡ Some d → (e : ElementData) × (element_in env s.0 ≡ Some e)
 element_there env s d h = option_and_then_some (λ e. admitted e (data_of s.1)) (element_in env s.0) d h (λ e is more. (e, is))
-
-pub none_unknown : (env : Env) (sets : Map Value) → AllSet env sets → find (λ (s : Name × Value). is_none (element_in env s.0)) sets ≡ None
-none_unknown env [] all = refl
-none_unknown env (s ∷ sets) all =
-    ap (λ o. cond (is_none o) (Some s) (find (λ (s : Name × Value). is_none (element_in env s.0)) sets)) (element_there env s all.0.0 all.0.1).1
-    ∙ none_unknown env sets all.1
 
 pub set_there : (env : Env) (sets : Map Value) (x : Name) → AllSet env sets → is_among x (names_of sets) ≡ true
     → (e : ElementData) × (element_in env x ≡ Some e)

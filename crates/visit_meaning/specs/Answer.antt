@@ -1,6 +1,9 @@
 -- What one visitor alone is sent.
 use Rattle.std.specs.Prelude.{ℕ, Bool, false, not, cond, is_none, List, [], ◌∷◌, ◌++◌, length, map, filter, find, flat_map, sum_by, Option, Some, None, option_and_then}
 use Rattle.std.specs.Str.{bytes_eq}
+use Rattle.messages.specs.declared.message.Message.{Message}
+use Rattle.messages.specs.declared.message.Message.TheVariants.{Open, Set, Close}
+use Rattle.messages.specs.declared.message.SetItem.{SetItem}
 use Rattle.py_tree.specs.Names.{Name, is_among}
 use Rattle.py_tree.specs.Trees.{Cell}
 use Rattle.py_value.specs.ElementData.{ElementData}
@@ -20,16 +23,11 @@ use Rattle.run_meaning.specs.Meaning.{Env}
 use Rattle.graph_meaning.specs.Reruns.{rerun}
 use Rattle.visit_meaning.specs.Whole.{whole}
 
--- a visitor's state: before the opening, or on with the present values that were set
+-- a visitor's state: before the opening, on with the present values that were set, or ended by a close message
 pub data State : Type 0 where
   Before : State
   On : (ui : Map Value) → State
-
--- what a visitor sends: the opening, values for elements by their names, in the order of the names' bytes, or what is no message
-pub data Message : Type 0 where
-  Open : Message
-  Set : (sets : Map Value) → Message
-  Other : Message
+  Ended : State
 
 -- a part of an answer: a frame, and the steps of the cell that runs for it
 pub record Part : Type 0 where
@@ -85,6 +83,19 @@ element_in env x = named_so x (look_up x env)
 abbrev pub value_set : Env → Name × Value → Option Data
 value_set env s = option_and_then (λ e. admitted e (data_of s.1)) (element_in env s.0)
 
+-- what an item sets its element to; none where no such element is in being, where it doesn't admit what is sent, and where no element does
+abbrev pub value_sent : Env → SetItem → Option Data
+value_sent env i = option_and_then (λ v. value_set env (i.name, v)) i.value
+
+-- the values that are sent, by their names, but for those that no element admits
+abbrev pub with_sent : Name → Option Value → Map Value → Map Value
+with_sent x None sets = sets
+with_sent x (Some v) sets = (x, v) ∷ sets
+
+abbrev pub values_sent : List SetItem → Map Value
+values_sent [] = []
+values_sent (i ∷ items) = with_sent i.name i.value (values_sent items)
+
 -- present values with those laid over them that are set
 abbrev pub with_value : Name → Option Data → Map Value → Map Value
 with_value x None ui = ui
@@ -106,32 +117,45 @@ present_after nb env ui sets =
 abbrev pub answer_with : List Cell → ℕ → Map Value → List ℕ → Answered
 answer_with nb budget ui cells = record { state = On ui; parts = counted (results_of nb budget ui cells) }
 
--- the answer by the first name that is no element's, if there is one, and else by the first whose element doesn't admit its value
-abbrev pub answer_by : List Cell → ℕ → Env → Map Value → Map Value → Option (Name × Value) → Option (Name × Value) → Answered
-answer_by nb budget env ui sets (Some s) unfit = refused (On ui) (frame.NoElement s.0)
-answer_by nb budget env ui sets None (Some s) = refused (On ui) (frame.NoValue s.0)
+-- the first item of a name that is no element's, and the first whose element doesn't admit what is sent
+abbrev pub first_unknown : Env → List SetItem → Option SetItem
+first_unknown env items = find (λ (i : SetItem). is_none (element_in env i.name)) items
+
+abbrev pub first_unfit : Env → List SetItem → Option SetItem
+first_unfit env items = find (λ (i : SetItem). is_none (value_sent env i)) items
+
+-- the answer by the first name that is no element's, if there is one, and else by the first whose element doesn't admit what is sent
+abbrev pub answer_by : List Cell → ℕ → Env → Map Value → Map Value → (unknown unfit : Option SetItem) → Answered
+answer_by nb budget env ui sets (Some i) unfit = refused (On ui) (frame.NoElement i.name)
+answer_by nb budget env ui sets None (Some i) = refused (On ui) (frame.NoValue i.name)
 answer_by nb budget env ui sets None None = answer_with nb budget (present_after nb env ui sets) (rerun nb (names_of sets))
 
-abbrev pub answer_set : List Cell → ℕ → Env → Map Value → Map Value → Answered
-answer_set nb budget env ui sets =
-    answer_by nb budget env ui sets (find (λ (s : Name × Value). is_none (element_in env s.0)) sets) (find (λ s. is_none (value_set env s)) sets)
+abbrev pub answer_set : List Cell → ℕ → Env → Map Value → List SetItem → Answered
+answer_set nb budget env ui items = answer_by nb budget env ui (values_sent items) (first_unknown env items) (first_unfit env items)
 
--- the answer to a message, and the state after it
-abbrev pub answer : List Cell → ℕ → State → Message → Answered
-answer nb budget Before Open = record { state = On []; parts = counted (results nb budget []) }
-answer nb budget Before (Set sets) = refused Before frame.BadOrder
-answer nb budget Before Other = refused Before frame.BadMessage
-answer nb budget (On ui) Open = refused (On ui) frame.BadOrder
-answer nb budget (On ui) (Set sets) = answer_set nb budget (whole nb budget ui).env ui sets
-answer nb budget (On ui) Other = refused (On ui) frame.BadMessage
+-- a visitor who has ended is answered nothing
+abbrev pub nothing_more : Answered
+nothing_more = record { state = Ended; parts = [] }
+
+-- The answer to a message, and the state after it; none is what is no message. A close message has no answer, and neither has any after it.
+abbrev pub answer : List Cell → ℕ → State → Option Message → Answered
+answer nb budget Ended m = nothing_more
+answer nb budget Before None = refused Before frame.BadMessage
+answer nb budget Before (Some Open) = record { state = On []; parts = counted (results nb budget []) }
+answer nb budget Before (Some (Set items)) = refused Before frame.BadOrder
+answer nb budget Before (Some Close) = nothing_more
+answer nb budget (On ui) None = refused (On ui) frame.BadMessage
+answer nb budget (On ui) (Some Open) = refused (On ui) frame.BadOrder
+answer nb budget (On ui) (Some (Set items)) = answer_set nb budget (whole nb budget ui).env ui items
+answer nb budget (On ui) (Some Close) = nothing_more
 
 -- the parts of the answers one after the other, from a state
-abbrev pub parts_from : List Cell → ℕ → State → List Message → List Part
+abbrev pub parts_from : List Cell → ℕ → State → List (Option Message) → List Part
 parts_from nb budget state [] = []
 parts_from nb budget state (m ∷ ms) = let a = answer nb budget state m in a.parts ++ parts_from nb budget a.state ms
 
 -- the state after messages
-abbrev pub state_after : List Cell → ℕ → State → List Message → State
+abbrev pub state_after : List Cell → ℕ → State → List (Option Message) → State
 state_after nb budget state [] = state
 state_after nb budget state (m ∷ ms) = state_after nb budget (answer nb budget state m).state ms
 
@@ -143,15 +167,15 @@ abbrev pub cost_of_parts : List Part → ℕ
 cost_of_parts parts = sum_by (λ (p : Part). p.cost) parts
 
 -- the frames of the answers one after the other, from a state, and the steps of all cells that run for them
-abbrev pub solo_from : List Cell → ℕ → State → List Message → List Frame
+abbrev pub solo_from : List Cell → ℕ → State → List (Option Message) → List Frame
 solo_from nb budget state ms = frames_in (parts_from nb budget state ms)
 
-abbrev pub work_from : List Cell → ℕ → State → List Message → ℕ
+abbrev pub work_from : List Cell → ℕ → State → List (Option Message) → ℕ
 work_from nb budget state ms = cost_of_parts (parts_from nb budget state ms)
 
 -- the frames of a visitor alone, and the steps of all cells that run for them
-abbrev pub solo : List Cell → ℕ → List Message → List Frame
+abbrev pub solo : List Cell → ℕ → List (Option Message) → List Frame
 solo nb budget = solo_from nb budget Before
 
-abbrev pub work : List Cell → ℕ → List Message → ℕ
+abbrev pub work : List Cell → ℕ → List (Option Message) → ℕ
 work nb budget = work_from nb budget Before

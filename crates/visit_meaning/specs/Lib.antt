@@ -1,5 +1,4 @@
 pub mod Answer
-pub mod Messages
 pub mod Rerun
 pub mod Runnable
 pub mod Underway

@@ -1,5 +1,6 @@
 -- A rerun: values are set, and some cells run one after the other from what is kept.
 use Rattle.std.specs.Prelude.{◌≡◌, ℕ, ◌<◌, cond, ◌==◌, List, [], ◌∷◌, ◌++◌, length, Option, Some, None, slice_get}
+use Rattle.messages.specs.declared.message.SetItem.{SetItem}
 use Rattle.py_tree.specs.Trees.{Cell}
 use Rattle.py_value.specs.Maps.{Map}
 use Rattle.py_value.specs.declared.types.Data.{Data}
@@ -7,7 +8,7 @@ use Rattle.py_value.specs.declared.types.Value.{Value}
 use Rattle.frames.specs.declared.frame.CellFrame.{CellFrame}
 use Rattle.frames.specs.declared.frame.Frame.TheVariants as frame
 use Rattle.run_meaning.specs.Meaning.{Env}
-use Rattle.visit_meaning.specs.Answer.{Part, element_in, value_set}
+use Rattle.visit_meaning.specs.Answer.{Part, element_in, value_sent, value_set}
 use Rattle.visit_meaning.specs.Underway.{HasNoElements, frame_at, outcome_now}
 use Rattle.visit_meaning.specs.Whole.{Outcome, whole}
 use Rattle.visit_meaning.specs.WithElement.{with_element}
@@ -34,6 +35,11 @@ pub record IsAfresh (nb : List Cell) (budget : ℕ) (ui : Map Value) (kept : Kep
 abbrev pub AllSet : Env → Map Value → Type 0
 AllSet env [] = Unit {0}
 AllSet env (s ∷ sets) = ((d : Data) × (value_set env s ≡ Some d)) × AllSet env sets
+
+-- each of the values that are sent is admitted by its element
+abbrev pub AllSent : Env → List SetItem → Type 0
+AllSent env [] = Unit {0}
+AllSent env (i ∷ items) = ((d : Data) × (value_sent env i ≡ Some d)) × AllSent env items
 
 -- the bindings with those values laid over that are set, one after the other, where their elements admit them
 abbrev pub laid_over : Map Value → Env → Env

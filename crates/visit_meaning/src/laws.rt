@@ -10,9 +10,11 @@ ghost use Rattle.py_value.specs.Maps.{Map, look_up};
 ghost use Rattle.py_value.specs.View.{value_of as value_in};
 ghost use Rattle.py_value.specs.declared.types.Data.{Data};
 ghost use Rattle.py_value.specs.declared.types.Value.{Value};
-ghost use Rattle.visit_meaning.specs.Answer.{Before, On, Message, Set, answer, counted, element_in, names_of, present_after, state_after, value_set};
-ghost use Rattle.visit_meaning.specs.Messages.{IsMessage};
-ghost use Rattle.visit_meaning.specs.Rerun.{AllSet, IsAfresh, Kept, after_cells, given_by, nothing_bound, with_values};
+ghost use Rattle.messages.specs.declared.message.Message.{Message};
+ghost use Rattle.messages.specs.declared.message.Message.TheVariants.{Set};
+ghost use Rattle.messages.specs.declared.message.SetItem.{SetItem};
+ghost use Rattle.visit_meaning.specs.Answer.{Before, On, answer, counted, element_in, names_of, present_after, state_after, value_set, values_sent};
+ghost use Rattle.visit_meaning.specs.Rerun.{AllSent, IsAfresh, Kept, after_cells, given_by, nothing_bound, with_values};
 ghost use Rattle.visit_meaning.specs.Runnable.{Runnable};
 ghost use Rattle.visit_meaning.specs.Whole.{ended_ok, whole};
 
@@ -29,24 +31,21 @@ pub fn rerun_suffices()
         → (budget : ℕ) (newest : ℕ → Option CellFrame)
         → IsAfresh nb budget [] (after_cells nb budget [] (order nb) (nothing_bound newest)) }
     ensures kept { (nb : List Cell) → Runnable nb → NoneDoubled nb → NoneCyclic nb
-        → (budget : ℕ) (ui sets : Map Value) (kept : Kept)
-        → IsAfresh nb budget ui kept → AllSet kept.env sets
-        → let present : Map Value = present_after nb kept.env ui sets in
+        → (budget : ℕ) (ui : Map Value) (items : List SetItem) (kept : Kept)
+        → IsAfresh nb budget ui kept → AllSent kept.env items
+        → let sets : Map Value = values_sent items in
+        let present : Map Value = present_after nb kept.env ui sets in
         IsAfresh nb budget present
         (after_cells nb budget present (rerun nb (names_of sets)) (with_values sets kept)) }
     ensures given { (nb : List Cell) → Runnable nb → NoneDoubled nb → NoneCyclic nb
-        → (budget : ℕ) (ui sets : Map Value) (kept : Kept)
-        → IsAfresh nb budget ui kept → AllSet kept.env sets
-        → let present : Map Value = present_after nb kept.env ui sets in
-        answer nb budget (On ui) (Set sets) ≡ record {
+        → (budget : ℕ) (ui : Map Value) (items : List SetItem) (kept : Kept)
+        → IsAfresh nb budget ui kept → AllSent kept.env items
+        → let sets : Map Value = values_sent items in
+        let present : Map Value = present_after nb kept.env ui sets in
+        answer nb budget (On ui) (Some (Set items)) ≡ record {
           state = On present;
           parts = counted (given_by nb budget present (rerun nb (names_of sets)) (with_values sets kept));
         } }
-{}
-
-/// No bytes are two messages.
-pub fn messages_are_read_one_way()
-    ensures one { (bytes : List ℕ) (m k : Message) → IsMessage bytes m → IsMessage bytes k → m ≡ k }
 {}
 
 /// What is in being where a visitor's messages have led, in a runnable notebook in which no name is defined twice and no cell lies on a cycle: an
@@ -54,13 +53,13 @@ pub fn messages_are_read_one_way()
 /// being, which admits it as it is.
 pub fn elements_in_being()
     ensures being { (nb : List Cell) → Runnable nb → NoneDoubled nb → NoneCyclic nb
-        → (budget : ℕ) (ms : List Message) (ui : Map Value)
+        → (budget : ℕ) (ms : List (Option Message)) (ui : Map Value)
         → state_after nb budget Before ms ≡ On ui → (x : Name)
         → (((e : ElementData) × (element_in (whole nb budget ui).env x ≡ Some e))
         ↔ ((c : ℕ) × (is_among x (elements_of nb c) ≡ true)
         × (ended_ok (whole nb budget ui).frames c ≡ true))) }
     ensures present { (nb : List Cell) → Runnable nb → NoneDoubled nb → NoneCyclic nb
-        → (budget : ℕ) (ms : List Message) (ui : Map Value)
+        → (budget : ℕ) (ms : List (Option Message)) (ui : Map Value)
         → state_after nb budget Before ms ≡ On ui → (x : Name) (v : Value) → look_up x ui ≡ Some v
         → (e : ElementData) × (d : Data) × (element_in (whole nb budget ui).env x ≡ Some e)
         × (value_set (whole nb budget ui).env (x, v) ≡ Some d) × (v ≡ value_in d) }

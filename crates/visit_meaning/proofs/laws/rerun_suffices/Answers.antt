@@ -10,9 +10,9 @@ returns-clause-opened c = λ nb runnable once free budget newest.
     let runs : Runs nb = record { runnable = runnable; once = once; free = free } in opened_afresh nb budget [] runs newest none_kept
 
 pub returns-clause-kept : goal.returns-clause-kept
-returns-clause-kept c = λ nb runnable once free budget ui sets kept afresh all.
-    let runs : Runs nb = record { runnable = runnable; once = once; free = free } in rerun_afresh nb budget ui sets kept runs afresh all
+returns-clause-kept c = λ nb runnable once free budget ui items kept afresh all.
+    let runs : Runs nb = record { runnable = runnable; once = once; free = free } in rerun_afresh nb budget ui items kept runs afresh all
 
 pub returns-clause-given : goal.returns-clause-given
-returns-clause-given c = λ nb runnable once free budget ui sets kept afresh all.
-    let runs : Runs nb = record { runnable = runnable; once = once; free = free } in rerun_answers nb budget ui sets kept runs afresh all
+returns-clause-given c = λ nb runnable once free budget ui items kept afresh all.
+    let runs : Runs nb = record { runnable = runnable; once = once; free = free } in rerun_answers nb budget ui items kept runs afresh all
