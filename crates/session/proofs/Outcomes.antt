@@ -8,9 +8,10 @@ use Rattle.kernel.proofs.SoloVisits.{goes_on}
 use Rattle.kernel.specs.Calls.{GoesOn, given_by, newest_after, parts_for, taken_by}
 use Rattle.kernel.specs.Visit.{Visit}
 use Rattle.link_io.specs.Links.{Item, Told}
-use Rattle.visit_meaning.specs.Answer.{cost_of_parts, frames_in}
+use Rattle.visit_meaning.specs.Answer.{cost_of_parts, frames_in, state_after}
 use Rattle.message_meaning.specs.Messages.{IsReceived}
 use Rattle.message_meaning.specs.Sent.{AreReceived}
+use Rattle.py_tree.specs.View.{view_cells}
 use Rattle.session.proofs.Calling.{Answered}
 use Rattle.session.specs.Endings.{ended_for}
 use Rattle.session.specs.Progress.{Closes, Stops}
@@ -67,6 +68,12 @@ counted {v = v} {count = count} {w = w} {count_after = count_after} a =
       steps = on.steps ∙ ap (λ ps. count + cost_of_parts ps) (all_given a on);
     }
 
+state_counted : {v : Visit} {count : ℕ} {before : Option Told} {items : List Item} {w : Visit} {count_after : ℕ} {now : Option Told}
+    → (a : Answered v count before items w count_after now) → w.state ≡ state_after (view_cells v.nb) v.budget v.state (counted a).messages
+unfolding counted
+state_counted {v = v} {count = count} {w = w} {count_after = count_after} a =
+    let on : GoesOn v (taken_by a.0.calls) (given_by a.0.calls) w count count_after = goes_on a.0.calls v w count count_after a.0.led in on.state
+
 -- the session ends at the end of the link,
 pub closed_at_end : {v : Visit} {count : ℕ} {before : Option Told} {items : List Item} {w : Visit} {count_after : ℕ} {mid : Option Told}
     → (now : Option Told) → Answered v count before items w count_after mid → length items < message_count_limit → AtEnd mid now
@@ -101,8 +108,12 @@ pub counts_by : {v : Visit} {count : ℕ} {before : Option Told} {items : List I
     → Closes w count_mid heard bytes x count_after now → Counts ended.Closed v before count count_after now
 counts_by {v = v} {count = count} {before = before} {items = items} {w = w} {mid = mid} m bytes heard x count_after now a is taken c =
     let last = last_taken m bytes heard x count_after now is taken c in
-    let there : IsCounted v before items count count_after mid = subst (λ n. IsCounted v before items count n mid) (sym c.steps) (counted a) in
-    (items, mid, there, inr (subst (λ s. TakesLast s mid now) (served a).state last))
+    let there = counted a in (
+      items,
+      mid,
+      record { messages = there.messages; are = there.are; texts = there.texts; talked = there.talked; steps = c.steps ∙ there.steps },
+      inr (subst (λ s. TakesLast s mid now) (state_counted a) last),
+    )
 
 -- ---- where it went no further
 

@@ -12,12 +12,12 @@ loop-preserved g c =
     let so_far = c.loop.invariant.1 in
     let heard = rw c.in-Message.is at c.hear.ensures.hears in
     let long = so_far.1 in (
-      omega (arith, c.loop.invariant.0, c.hear.ensures.later, c.in_default-answer_message.ensures.later),
+      omega (arith, c.loop.invariant.0, c.hear.ensures.later, c.in-Ok-Sent.ensures.later),
       (
         so_far.0 ++ heard.0 ∷ [],
         omega (arith, length-append so_far.0 (heard.0 ∷ []), long),
         answered_next heard.0 c.as_slice.result.now (g.K.Link.told c.hear.new.link) c.answer_message.new.kernel c.answer_message.new.steps (g.K.Link.told c.answer_message.new.link)
-            so_far.2 (heard.1 ∙ sym c.as_slice.ensures.value) heard.2 c.in_default-answer_message.ensures.answered,
+            so_far.2 (heard.1 ∙ sym c.as_slice.ensures.value) heard.2 (rw c.in-Ok-Sent.field-0-is at c.in-Ok-Sent.ensures.answered),
       ),
     )
 
@@ -58,19 +58,19 @@ returns-in-Err-answer_message-clause-steps g c =
     subst (λ end. Counts end c.args.kernel.now told c.args.steps.now c.answer_message.new.steps now) (sym c.ended_of-in-Err-answer_message.ensures)
     (counts_cut c.in-Err-answer_message.why (so_far.0 ++ heard.0 ∷ []) broke.stops few)
 
-pub returns-in-Closed-clause-serves : goal.returns-in-Closed-clause-serves
-returns-in-Closed-clause-serves g c =
+pub returns-in-Ok-Closed-clause-serves : goal.returns-in-Ok-Closed-clause-serves
+returns-in-Ok-Closed-clause-serves g c =
     let so_far = c.loop.invariant.1 in
     let heard = rw c.in-Message.is at c.hear.ensures.hears in
     closed_by heard.0 c.as_slice.result.now (g.K.Link.told c.hear.new.link) c.answer_message.new.kernel c.answer_message.new.steps (g.K.Link.told c.answer_message.new.link)
-    so_far.2 (omega (arith, so_far.1, c.loop-test.true)) (heard.1 ∙ sym c.as_slice.ensures.value) heard.2 c.in-Closed.ensures.answered
+    so_far.2 (omega (arith, so_far.1, c.loop-test.true)) (heard.1 ∙ sym c.as_slice.ensures.value) heard.2 (rw c.in-Ok-Closed.field-0-is at c.in-Ok-Closed.ensures.answered)
 
-pub returns-in-Closed-clause-steps : goal.returns-in-Closed-clause-steps
-returns-in-Closed-clause-steps g c =
+pub returns-in-Ok-Closed-clause-steps : goal.returns-in-Ok-Closed-clause-steps
+returns-in-Ok-Closed-clause-steps g c =
     let so_far = c.loop.invariant.1 in
     let heard = rw c.in-Message.is at c.hear.ensures.hears in
     counts_by heard.0 c.as_slice.result.now (g.K.Link.told c.hear.new.link) c.answer_message.new.kernel c.answer_message.new.steps (g.K.Link.told c.answer_message.new.link)
-    so_far.2 (heard.1 ∙ sym c.as_slice.ensures.value) heard.2 c.in-Closed.ensures.answered
+    so_far.2 (heard.1 ∙ sym c.as_slice.ensures.value) heard.2 (rw c.in-Ok-Closed.field-0-is at c.in-Ok-Closed.ensures.answered)
 
 pub returns-in-End-clause-serves : goal.returns-in-End-clause-serves
 returns-in-End-clause-serves g c =
