@@ -11,12 +11,12 @@ use Rattle.py_tree.specs.View.{view_cells}
 use Rattle.py_tree.specs.declared.tree.CellCode.{CellCode}
 use Rattle.visit_meaning.proofs.Endings.{HasNoClose, not_ended}
 use Rattle.visit_meaning.specs.Answer.{Before, Part, frames_in, solo, state_after}
-use Rattle.message_meaning.specs.Messages.{IsMessage, IsReceived}
+use Rattle.message_meaning.specs.Messages.{IsReceived}
 use Rattle.message_meaning.specs.Sent.{AreReceived}
 use Rattle.messages.specs.declared.message.Message.{Message}
 use Rattle.messages.specs.declared.message.Message.TheVariants.{Close}
 use Rattle.session.specs.Serving.{IsCutShort, SentClosed, SentSolo, SentSome, Serves}
-use Rattle.session.specs.Talks.{AtEnd, IsNoClose, TakesLast, Talked, bytes_of, texts_of}
+use Rattle.session.specs.Talks.{AtEnd, IsClose, IsNoClose, TakesLast, Talked, bytes_of, texts_of}
 use Rattle.session.specs.declared.ended.Ended.TheVariants as ended
 
 abbrev told_or : Option Told → Told → Told
@@ -97,7 +97,7 @@ ends_at_end nb budget all items left texts messages now whole are solo_texts at_
 
 ends_by : (nb : List CellCode) (budget : ℕ) (all items left : List Item) (texts : List (List ℕ)) (messages : List (Option Message)) (now : Told)
     → all ≡ items ++ left → AreReceived (map bytes_of items) messages → texts ≡ map frame_text (solo (view_cells nb) budget messages)
-    → (m : Item) → IsMessage (bytes_of m) Close → Talked (Some (after_talk items left texts)) (Some now) (m ∷ []) []
+    → (m : Item) → IsClose m → Talked (Some (after_talk items left texts)) (Some now) (m ∷ []) []
     → All IsNoClose items → SentClosed nb budget all now
 ends_by nb budget all items left texts messages now whole are solo_texts m close closed unclosed =
     let behind : Told = after_talk (items ++ m ∷ []) closed.0 (texts ++ []) in
@@ -122,11 +122,12 @@ others_received (m ∷ items) (k ∷ messages) are others = (
       others_received items messages are.1 (All-tail IsNoClose m items others),
     )
 
--- from the beginning on it is a close message that ends a visit
-last_closes : (nb : List CellCode) (budget : ℕ) (messages : List (Option Message)) (mid now : Option Told) → HasNoClose messages
-    → (last : TakesLast (state_after (view_cells nb) budget Before messages) mid now) → IsMessage (bytes_of last.item) Close
-last_closes nb budget messages mid now others last = ⊎_elim
-    (λ ended. absurd (not_ended (view_cells nb) budget messages others ended))
+-- From the beginning on, behind messages of which none is the close message, it is a close message that ends a visit.
+pub last_closes : (nb : List CellCode) (budget : ℕ) (items : List Item) (messages : List (Option Message)) (mid now : Option Told)
+    → AreReceived (map bytes_of items) messages → All IsNoClose items
+    → (last : TakesLast (state_after (view_cells nb) budget Before messages) mid now) → IsClose last.item
+last_closes nb budget items messages mid now are unclosed last = ⊎_elim
+    (λ ended. absurd (not_ended (view_cells nb) budget messages (others_received items messages are unclosed) ended))
     (λ close. subst (IsReceived (bytes_of last.item)) close last.is)
     last.last
 
@@ -143,6 +144,6 @@ closed_solo nb budget all after now h =
     let last : TakesLast (state_after (view_cells nb) budget Before s.messages) h.3 (Some now) =
     subst (λ state. TakesLast state h.3 (Some now)) s.state over.0 in
     ends_by nb budget all h.0 t.0 texts s.messages now t.1 s.are refl last.item
-    (last_closes nb budget s.messages h.3 (Some now) (others_received h.0 s.messages s.are s.unclosed) last)
+    (last_closes nb budget h.0 s.messages h.3 (Some now) s.are s.unclosed last)
     (subst (λ mid. Talked mid (Some now) (last.item ∷ []) []) t.2 last.talked) s.unclosed)
     h.5

@@ -3,15 +3,13 @@ use Rattle.std.specs.Prelude.{◌≡◌, ℕ, ◌+◌, ◌<◌, ◌≤◌, ◌�
 use Rattle.frame_meaning.specs.FrameText.{frame_text}
 use Rattle.kernel.specs.Calls.{newest_after, parts_for}
 use Rattle.kernel.specs.Visit.{Stands, Visit, closed, first_cost}
-use Rattle.message_meaning.specs.Messages.{IsMessage}
 use Rattle.message_meaning.specs.Sent.{AreReceived}
 use Rattle.messages.specs.declared.message.Message.{Message}
-use Rattle.messages.specs.declared.message.Message.TheVariants.{Close}
 use Rattle.link_io.specs.Links.{Item, Told}
 use Rattle.py_tree.specs.View.{view_cells}
 use Rattle.py_tree.specs.declared.tree.CellCode.{CellCode}
 use Rattle.visit_meaning.specs.Answer.{Part, cost_of_parts, frames_in, solo, state_after}
-use Rattle.session.specs.Talks.{AtEnd, IsNoClose, IsOver, TakesLast, Talked, bytes_of, texts_of}
+use Rattle.session.specs.Talks.{AtEnd, IsClose, IsNoClose, IsOver, TakesLast, Talked, bytes_of, texts_of}
 use Rattle.session.specs.declared.ended.Ended.{Ended}
 use Rattle.session.specs.declared.ended.Ended.TheVariants as ended
 
@@ -115,4 +113,4 @@ pub record SentClosed (nb : List CellCode) (budget : ℕ) (all : List Item) (now
   pub unclosed : All IsNoClose read
   pub answered : SentSolo nb budget read now
   pub all_are : now.taken ++ now.left ≡ all
-  pub ends : ((read ≡ all) × (now.taken ≡ all)) ⊎ ((m : Item) × IsMessage (bytes_of m) Close × (now.taken ≡ read ++ m ∷ []))
+  pub ends : ((read ≡ all) × (now.taken ≡ all)) ⊎ ((m : Item) × IsClose m × (now.taken ≡ read ++ m ∷ []))

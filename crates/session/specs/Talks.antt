@@ -19,6 +19,10 @@ bytes_of None = []
 abbrev pub IsOther : List ℕ → Type 0
 IsOther bytes = IsMessage bytes Close → ⊥
 
+-- a message that is taken is the close message, or it isn't
+abbrev pub IsClose : Item → Type 0
+IsClose m = IsMessage (bytes_of m) Close
+
 abbrev pub IsNoClose : Item → Type 0
 IsNoClose m = IsOther (bytes_of m)
 

@@ -7,7 +7,7 @@ use Rattle.std.specs.Prelude.{◌⊎◌, All, Some, sum_by}
 use Rattle.link_io.specs.Doors.{Parted}
 use Rattle.link_io.specs.Links.{Item}
 use Rattle.link_io.specs.Porches.{Seen}
-use Rattle.session.specs.Talks.{close_text}
+use Rattle.session.specs.Talks.{IsClose}
 use Rattle.session.specs.declared.ended.Ended.{Ended}
 use Rattle.session.specs.declared.ended.Ended.TheVariants as ended
 use Rattle.ws_server.proofs.Totals.{all_counts, all_fit, all_new, all_visitors, all_whole, some_rose}
@@ -140,7 +140,7 @@ answered alone m p ended.Closed f few =
         unheard = [];
         taken = end.0 ∙ sym own;
         one = omega arith;
-        close = λ none. All-nil (λ (m : Item). m ≡ Some close_text);
+        close = λ none. All-nil IsClose;
         texts = f.told.sent;
         are = f.ends.3;
         rest = [];
@@ -150,10 +150,10 @@ answered alone m p ended.Closed f few =
         told = f.told;
         is = f.is;
         heard = items;
-        unheard = Some close_text ∷ [];
-        taken = closed;
+        unheard = closed.0 ∷ [];
+        taken = closed.2;
         one = omega arith;
-        close = λ none. All-cons (λ (m : Item). m ≡ Some close_text) (Some close_text) [] refl (All-nil (λ (m : Item). m ≡ Some close_text));
+        close = λ none. All-cons IsClose closed.0 [] closed.1 (All-nil IsClose);
         texts = f.told.sent;
         are = f.ends.3;
         rest = [];
@@ -167,7 +167,7 @@ answered alone m p ended.TooMany f few = record {
   unheard = [];
   taken = sym (append-nil f.told.taken);
   one = omega arith;
-  close = λ none. All-nil (λ (m : Item). m ≡ Some close_text);
+  close = λ none. All-nil IsClose;
   texts = f.told.sent;
   are = f.ends.2;
   rest = [];
@@ -180,7 +180,7 @@ answered alone m p ended.LinkFault f few = record {
   unheard = [];
   taken = sym (append-nil f.told.taken);
   one = omega arith;
-  close = λ none. All-nil (λ (m : Item). m ≡ Some close_text);
+  close = λ none. All-nil IsClose;
   texts = f.ends.2;
   are = f.ends.3;
   rest = f.ends.4;
@@ -189,8 +189,8 @@ answered alone m p ended.LinkFault f few = record {
 answered alone m p ended.Memory f few = record {
   told = f.told;
   is = f.is;
-  heard = f.ends.2;
-  unheard = f.ends.3;
+  heard = f.ends.1;
+  unheard = f.ends.2;
   taken = f.ends.4;
   one = f.ends.5;
   close = λ none. absurd (omega (arith, few, none));

@@ -5,7 +5,7 @@ use Rattle.link_io.specs.Links.{Item, Told}
 use Rattle.link_io.specs.Outside.{Rose}
 use Rattle.link_io.specs.Porches.{Seen}
 use Rattle.session.specs.Serving.{message_count_limit}
-use Rattle.session.specs.Talks.{close_text}
+use Rattle.session.specs.Talks.{IsClose}
 use Rattle.session.specs.declared.ended.Ended.TheVariants as ended
 use Rattle.ws_server.specs.Visitors.{Alone, Ends}
 use Rattle.ws_server.specs.declared.report.Report.{Report}
@@ -60,7 +60,7 @@ pub record IsAnswered (alone : Alone) (memory : ℕ) (p : Parted) : Type 0 where
   pub unheard : List Item
   pub taken : told.taken ≡ heard ++ unheard
   pub one : length unheard ≤ 1
-  pub close : memory ≡ 0 → All (λ m. m ≡ Some close_text) unheard
+  pub close : memory ≡ 0 → All IsClose unheard
   pub texts : List (List ℕ)
   pub are : alone heard texts
   pub rest : List (List ℕ)

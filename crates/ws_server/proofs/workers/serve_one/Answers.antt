@@ -12,4 +12,4 @@ returns-clause-ends g c all told =
     (rw (c.in-Ok.ensures, told) at c.serve_visitor.ensures.serves)
 
 pub returns-in_default-clause-ends : goal.returns-in_default-clause-ends
-returns-in_default-clause-ends g c all told = (fresh all, told, refl, (All-nil IsNoClose, omega arith, [], [], refl, omega arith, [], ([], tt, refl), [], refl))
+returns-in_default-clause-ends g c all told = (fresh all, told, refl, (omega arith, [], [], All-nil IsNoClose, refl, omega arith, [], ([], tt, refl), [], refl))
