@@ -2,4 +2,5 @@
 pub mod Turns
 pub mod ScriptTexts
 -- For `worked_answers` and `worked_scripts`.
+pub mod SentTexts
 pub mod SliderAnswers

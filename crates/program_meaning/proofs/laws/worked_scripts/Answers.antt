@@ -2,50 +2,17 @@
 use Rattle.std.proofs.Common.{◌≡◌, ◌∙◌, inl, inr, refl, ap, ℕ, true, false, [], ◌∷◌, ◌++◌, lit≤, lit<, arith, Some, None}
 use Rattle.std.specs.Prelude.{codes}
 use Rattle.std.specs.Fmt.{digits}
-use Rattle.std.specs.Str.{chars, is_utf8}
 use Rattle.messages.specs.declared.message.Message.TheVariants.{Open, Close}
-use Rattle.message_meaning.proofs.Computing.{computed, refused}
-use Rattle.message_meaning.specs.Messages.{IsMessage, IsNoMessage}
-use Rattle.serde_json.proofs.OnLiterals.{serde_json_on_literals}
 use Rattle.visit_meaning.specs.Answer.{frames_in, solo}
 use Rattle.frame_meaning.specs.FrameText.{labelled}
 use Rattle.program_meaning.specs.Samples.{sets_s, with_slider}
 use Rattle.program_meaning.specs.Program.{usual_budget}
 use Rattle.program_meaning.specs.Scripts.{IsLine, IsSend, Said, Joins, Sends}
 use Rattle.program_meaning.proofs.ScriptTexts.{cant_follow, no_join}
+use Rattle.program_meaning.proofs.SentTexts.{opening, to_4, to_4_with_blanks, to_11, closing, nothing, letter}
 use Rattle.program_meaning.proofs.SliderAnswers.{all_parts, after_set, opens, to_open, to_four, to_none}
 use Rattle.program_meaning.proofs.Turns.{there_after}
 use Rattle.program_meaning.proofs.laws.worked_scripts.Goals as goal
-
--- ---- the texts that are sent
-
-opening : IsMessage (codes "{\"open\":{}}") Open
-unfolding serde_json_on_literals is_utf8 chars
-opening = computed _ _ refl refl refl
-
-to_4 : IsMessage (codes "{\"set\":{\"s\":4}}") (sets_s 4)
-unfolding serde_json_on_literals is_utf8 chars
-to_4 = computed _ _ refl refl refl
-
-to_4_with_blanks : IsMessage (codes "{ \"set\": {\"s\": 4} }") (sets_s 4)
-unfolding serde_json_on_literals is_utf8 chars
-to_4_with_blanks = computed _ _ refl refl refl
-
-to_11 : IsMessage (codes "{\"set\":{\"s\":11}}") (sets_s 11)
-unfolding serde_json_on_literals is_utf8 chars
-to_11 = computed _ _ refl refl refl
-
-closing : IsMessage (codes "{\"close\":{}}") Close
-unfolding serde_json_on_literals is_utf8 chars
-closing = computed _ _ refl refl refl
-
-nothing : IsNoMessage []
-unfolding serde_json_on_literals
-nothing = refused _ refl
-
-letter : IsNoMessage (codes "x")
-unfolding serde_json_on_literals
-letter = refused _ refl
 
 -- ---- the lines that send them
 
