@@ -15,6 +15,7 @@ pub taken_append : (xs ys : List Call) → taken_by (xs ++ ys) ≡ taken_by xs +
 taken_append [] ys = refl
 taken_append (Deliver bytes (delivered.Busy pending) ∷ xs) ys = taken_append xs ys
 taken_append (Deliver bytes delivered.Taken ∷ xs) ys = ap (λ ts. bytes ∷ ts) (taken_append xs ys)
+taken_append (Deliver bytes delivered.Closed ∷ xs) ys = ap (λ ts. bytes ∷ ts) (taken_append xs ys)
 taken_append (Step answer ∷ xs) ys = taken_append xs ys
 
 pub given_append : (xs ys : List Call) → given_by (xs ++ ys) ≡ given_by xs ++ given_by ys

@@ -7,7 +7,7 @@ use Rattle.std.proofs.lemmas.List.Elements.{All-head, All-tail}
 use Rattle.graph_meaning.proofs.Orders.{free_is_listed}
 use Rattle.visit_meaning.proofs.ResultsOf.{one_each}
 use Rattle.visit_meaning.proofs.Standing as standing
-use Rattle.visit_meaning.specs.Answer.{Part, Before, On, at_no_cost, results_of}
+use Rattle.visit_meaning.specs.Answer.{Part, Before, On, Ended, at_no_cost, results_of}
 use Rattle.graph_meaning.specs.Graph.{is_in, NoneCyclic}
 use Rattle.visit_meaning.specs.Rerun.{IsAfresh}
 use Rattle.visit_meaning.specs.Underway.{Going}
@@ -22,6 +22,8 @@ use Rattle.kernel.specs.Visit.{Visit, IsWhole, Stands, newest_in}
 use Rattle.kernel.specs.declared.pending.Pending.{Pending}
 use Rattle.kernel.specs.declared.pending.Pending.TheVariants as pending
 use Rattle.kernel.specs.declared.state.KernelState.{KernelState}
+use Rattle.kernel.specs.declared.state.Phase.{Phase}
+use Rattle.kernel.specs.declared.state.Phase.TheVariants as phases
 
 -- ---- what is to come
 
@@ -60,13 +62,15 @@ kept_counted s kept =
 
 -- ---- what stands
 
-before_by : (on : Bool) (s : KernelState) → StandsBy on s → state_of on s.present ≡ Before → (c : ℕ) → newest_in s.newest.items c ≡ None
-before_by true s by e c = let bad : On s.present ≡ Before = e in absurd cc
-before_by false s by e c = by.newest c
+before_by : (p : Phase) (s : KernelState) → StandsBy p s → state_of p s.present ≡ Before → (c : ℕ) → newest_in s.newest.items c ≡ None
+before_by phases.Before s by e c = by.newest c
+before_by phases.On s by e c = let bad : On s.present ≡ Before = e in absurd cc
+before_by phases.Ended s by e c = let bad : Ended ≡ Before = e in absurd cc
 
-whole_by : (on spoiled : Bool) (s : KernelState) (ui : Map Value) → StandsBy on s → state_of on s.present ≡ On ui → left_of s.pending ≡ []
+whole_by : (p : Phase) (spoiled : Bool) (s : KernelState) (ui : Map Value) → StandsBy p s → state_of p s.present ≡ On ui → left_of s.pending ≡ []
     → IsWhole (visit_of spoiled s) ui
-whole_by true spoiled s ui by e none =
+whole_by phases.Before spoiled s ui by e none = let bad : Before ≡ On ui = e in absurd cc
+whole_by phases.On spoiled s ui by e none =
     let nb : List Cell = view_cells s.notebook.now in
     let is : On s.present ≡ On ui = e in
     let same : s.present ≡ ui = cc in
@@ -74,14 +78,14 @@ whole_by true spoiled s ui by e none =
     standing.stands by.values (subst (λ left. Going nb s.budget s.present left s.env (newest_in s.newest.items)) none by.going) in
     let count : length nb ≡ length s.notebook.now = length-map s.notebook.now view_cell in
     subst (λ ui. IsWhole (visit_of spoiled s) ui) same (record { env = at.env_is; newest = λ c below. at.newest_is c (omega arith) })
-whole_by false spoiled s ui by e none = let bad : Before ≡ On ui = e in absurd cc
+whole_by phases.Ended spoiled s ui by e none = let bad : Ended ≡ On ui = e in absurd cc
 
 pub stands_of : (spoiled : Bool) (s : KernelState) (v : Visit) → visit_of spoiled s ≡ v → (spoiled ≡ false → IsKept s) → v.spoiled ≡ false → Stands v
 stands_of spoiled s v is kept sound =
     let k : IsKept s = kept (ap (λ (v : Visit). v.spoiled) is ∙ sound) in
     subst Stands is (record {
-      before = before_by s.on s k.stands;
-      on = λ ui e none. whole_by s.on spoiled s ui k.stands e (none_left (view_cells s.notebook.now) s.budget s.present s.pending none);
+      before = before_by s.phase s k.stands;
+      on = λ ui e none. whole_by s.phase spoiled s ui k.stands e (none_left (view_cells s.notebook.now) s.budget s.present s.pending none);
     })
 
 pub stands_now : (s : KernelState) → IsKept s → Stands (visit_of false s)

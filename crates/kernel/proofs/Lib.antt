@@ -5,16 +5,13 @@ pub mod DroppedNames
 pub mod PutBack
 pub mod Results
 pub mod Bounds
--- For `read_text`: messages as the code reads them.
-pub mod MessageBytes
-pub mod MessageNumbers
-pub mod MessageParts
 -- For `run_cell`: a cell's run and what it leaves.
 pub mod CellRun
 pub mod CellStep
 -- For `Kernel::deliver`: what a message changes, and that it is as its answer says.
 pub mod TakenMessage
-pub mod SetValue
+pub mod Sets
+pub mod SetValues
 -- For `Kernel::step`: the next frame, and what is kept after it.
 pub mod NextFrame
 pub mod Newest

@@ -1,5 +1,5 @@
 -- The next frame of an answer, and what is kept after it.
-use Rattle.std.proofs.Common.{◌≡◌, ◌∙◌, refl, sym, ap, subst, ℕ, ◌+◌, ◌<◌, ◌≤◌, ◌≢◌, Bool, true, false, ◌==◌, List, [], ◌∷◌, ◌++◌, length, drop, get_or, get_or-set_same, get_or-set_other, arith}
+use Rattle.std.proofs.Common.{◌≡◌, ◌∙◌, refl, sym, ap, subst, ℕ, ◌+◌, ◌<◌, ◌≤◌, ◌≢◌, true, false, ◌==◌, List, [], ◌∷◌, ◌++◌, length, drop, get_or, get_or-set_same, get_or-set_other, arith}
 use Rattle.std.specs.Prelude.{All, Some, None, flat_map, set, slice_get}
 use Rattle.std.specs.Vec.{with_item}
 use Rattle.std.proofs.Math.ListN.{length-set}
@@ -24,6 +24,8 @@ use Rattle.kernel.specs.Visit.{Gives, first_cost, newest_in}
 use Rattle.kernel.specs.declared.pending.Cells.{Cells}
 use Rattle.kernel.specs.declared.pending.Pending.TheVariants as pending
 use Rattle.kernel.specs.declared.state.KernelState.{KernelState}
+use Rattle.kernel.specs.declared.state.Phase.{Phase}
+use Rattle.kernel.specs.declared.state.Phase.TheVariants as phases
 use Rattle.kernel.proofs.CellStep.{parents_ok}
 
 -- ---- the cells that are left
@@ -45,9 +47,10 @@ abbrev pub after : KernelState → Cells → ℕ → ℕ → Env → CellFrame �
 after s cells taken c env f = record s { env = env; newest = with_item s.newest c (Some f); pending = pending.Results cells (taken + 1) }
 
 -- Where a cell is left, the notebook is open.
-on_by : (b : Bool) (s : KernelState) (c : ℕ) (cs : List ℕ) → left_of s.pending ≡ c ∷ cs → StandsBy b s → (b ≡ true) × IsAfter s
-on_by true s c cs e by = (refl, by)
-on_by false s c cs e by = let no : [] ≡ c ∷ cs = sym by.left ∙ e in absurd cc
+on_by : (p : Phase) (s : KernelState) (c : ℕ) (cs : List ℕ) → left_of s.pending ≡ c ∷ cs → StandsBy p s → (p ≡ phases.On) × IsAfter s
+on_by phases.Before s c cs e by = let no : [] ≡ c ∷ cs = sym by.left ∙ e in absurd cc
+on_by phases.On s c cs e by = (refl, by)
+on_by phases.Ended s c cs e by = let no : [] ≡ c ∷ cs = sym by.left ∙ e in absurd cc
 
 runs_of : (s : KernelState) → IsKept s → Runs (view_cells s.notebook.now)
 runs_of s kept = record { runnable = kept.runnable; once = kept.once; free = kept.free }
@@ -85,8 +88,8 @@ pub record Did (s : KernelState) (cells : Cells) (taken c : ℕ) (code : Cell) (
   pub plain : IsPlain env
 
 module _ (s : KernelState) (cells : Cells) (taken c : ℕ) (code : Cell) where
-  was : IsNext s cells taken c code → (s.on ≡ true) × IsAfter (standing s cells taken)
-  was at = on_by s.on (standing s cells taken) c (drop (taken + 1) (cells_of cells)) (cut (cells_of cells) taken c at.next) at.kept.stands
+  was : IsNext s cells taken c code → (s.phase ≡ phases.On) × IsAfter (standing s cells taken)
+  was at = on_by s.phase (standing s cells taken) c (drop (taken + 1) (cells_of cells)) (cut (cells_of cells) taken c at.next) at.kept.stands
 
   going_here : IsNext s cells taken c code → Going (view_cells s.notebook.now) s.budget s.present (c ∷ drop (taken + 1) (cells_of cells)) s.env (newest_in s.newest.items)
   going_here at =
@@ -145,7 +148,7 @@ module _ (s : KernelState) (cells : Cells) (taken c : ℕ) (code : Cell) (env : 
         cells = All-tail (λ d. d < length s.notebook.now) c (drop (taken + 1) (cells_of cells))
             (subst (All (λ d. d < length s.notebook.now)) (cut (cells_of cells) taken c at.next) at.kept.cells);
         within = (omega (arith, slice_get_within (cells_of cells) taken c at.next), at.kept.within.1);
-        stands = subst (λ b. StandsBy b (after s cells taken c env f)) (sym (was s cells taken c code at).0) (going_on did);
+        stands = subst (λ p. StandsBy p (after s cells taken c env f)) (sym (was s cells taken c code at).0) (going_on did);
       }
 
   -- and its frame is given

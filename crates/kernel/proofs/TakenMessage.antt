@@ -1,11 +1,12 @@
 -- What is kept when a message was taken, and that it is as the message's answer says.
-use Rattle.std.proofs.Common.{◌≡◌, ◌∙◌, refl, sym, ap, subst, ℕ, ◌+◌, ◌^◌, ◌≤◌, ◌<◌, true, false, List, [], ◌∷◌, ◌++◌, length, arith}
-use Rattle.std.specs.Prelude.{All, flat_map}
+use Rattle.std.proofs.Common.{◌≡◌, ◌∙◌, refl, sym, ap, subst, ℕ, ◌+◌, ◌^◌, ◌≤◌, ◌<◌, false, List, [], ◌∷◌, ◌++◌, length, arith}
+use Rattle.std.specs.Prelude.{All, Some, flat_map}
 use Rattle.std.proofs.lemmas.List.{length-map}
+use Rattle.messages.specs.declared.message.Message.TheVariants.{Open}
 use Rattle.py_tree.specs.Trees.{Cell}
 use Rattle.py_tree.specs.View.{view_cell, view_cells}
 use Rattle.py_tree.specs.declared.tree.CellCode.{CellCode}
-use Rattle.visit_meaning.specs.Answer.{On, Open, Part, at_no_cost, results, results_of, counted, answer}
+use Rattle.visit_meaning.specs.Answer.{On, Part, at_no_cost, results, results_of, counted, answer}
 use Rattle.graph_meaning.specs.Graph.{order}
 use Rattle.visit_meaning.specs.Runnable.{Runnable}
 use Rattle.visit_meaning.specs.Underway.{Going, HasNoElements}
@@ -19,6 +20,7 @@ use Rattle.kernel.specs.Visit.{Takes, newest_in}
 use Rattle.kernel.specs.declared.pending.Cells.{Cells}
 use Rattle.kernel.specs.declared.pending.Pending.TheVariants as pending
 use Rattle.kernel.specs.declared.state.KernelState.{KernelState}
+use Rattle.kernel.specs.declared.state.Phase.TheVariants as phases
 use Rattle.kernel.proofs.Bounds.{order_below, order_length}
 
 pub runs_of : (s : KernelState) → IsKept s → Runs (view_cells s.notebook.now)
@@ -42,12 +44,12 @@ counted_cells parts f cells is long = ap (λ n. flat_map f cells ++ at_no_cost (
 -- ---- the opening
 
 abbrev pub opened : KernelState → Cells → KernelState
-opened s cells = record s { on = true; pending = pending.Results cells 0 }
+opened s cells = record s { phase = phases.On; pending = pending.Results cells 0 }
 
-before_by : (s : KernelState) → IsKept s → s.on ≡ false → IsBefore s
-before_by s kept off = subst (λ b. StandsBy b s) off kept.stands
+before_by : (s : KernelState) → IsKept s → s.phase ≡ phases.Before → IsBefore s
+before_by s kept off = subst (λ p. StandsBy p s) off kept.stands
 
-pub opened_kept : (s : KernelState) (cells : Cells) → IsKept s → s.on ≡ false → cells_of cells ≡ order (view_cells s.notebook.now) → IsKept (opened s cells)
+pub opened_kept : (s : KernelState) (cells : Cells) → IsKept s → s.phase ≡ phases.Before → cells_of cells ≡ order (view_cells s.notebook.now) → IsKept (opened s cells)
 opened_kept s cells kept off is =
     let nb : List Cell = view_cells s.notebook.now in
     let before : IsBefore s = before_by s kept off in
@@ -67,18 +69,18 @@ opened_kept s cells kept off is =
       };
     }
 
-pub opened_taken : (s : KernelState) (cells : Cells) → IsKept s → s.on ≡ false → cells_of cells ≡ order (view_cells s.notebook.now)
-    → Takes Open (visit_of false s) (visit_of false (opened s cells))
+pub opened_taken : (s : KernelState) (cells : Cells) → IsKept s → s.phase ≡ phases.Before → cells_of cells ≡ order (view_cells s.notebook.now)
+    → Takes (Some Open) (visit_of false s) (visit_of false (opened s cells))
 opened_taken s cells kept off is =
     let nb : List Cell = view_cells s.notebook.now in
     let none : s.present ≡ [] = (before_by s kept off).present in
     record {
-      state = ap On none ∙ ap (λ b. (answer nb s.budget (state_of b s.present) Open).state) (sym off);
+      state = ap On none ∙ ap (λ p. (answer nb s.budget (state_of p s.present) (Some Open)).state) (sym off);
       pending = ap (λ cs. flat_map (λ c. results_of nb s.budget s.present (c ∷ [])) cs ++ at_no_cost (frame.Done (length cs)) ∷ []) is
           ∙ counted_cells (results nb s.budget s.present) (λ c. results_of nb s.budget s.present (c ∷ [])) (order nb)
           (all_results_one_by_one nb s.budget s.present) (one_each_all nb s.budget s.present)
           ∙ ap (λ ui. counted (results nb s.budget ui)) none
-          ∙ ap (λ b. (answer nb s.budget (state_of b s.present) Open).parts) (sym off);
+          ∙ ap (λ p. (answer nb s.budget (state_of p s.present) (Some Open)).parts) (sym off);
       newest = refl;
       kept = λ why e. refl;
       nb = refl;

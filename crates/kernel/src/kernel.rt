@@ -56,8 +56,8 @@ impl<'n> Kernel<'n> {
         })
     }
 
-    /// Takes a message of the visitor, whose answer is then to come. It is `Busy` where frames of an earlier answer are. Bytes that
-    /// are no message are answered with that refusal.
+    /// Takes a message of the visitor, whose answer is then to come, or is `Closed` where it is a close message or comes after one. It is
+    /// `Busy` where frames of an earlier answer are to come. Bytes that are no message are answered with that refusal.
     pub fn deliver(&mut self, alloc: Global, bytes: &[u8]) -> Result<Delivered, Memory>
         ensures delivers { IfOk result
             (λ delivered. IsDelivery bytes.now self.old self.new delivered) }
@@ -75,9 +75,9 @@ impl<'n> Kernel<'n> {
             return Ok(Delivered::Busy { pending });
         }
         self.spoiled = true;
-        self.state.take(alloc, bytes)?;
+        let delivered = self.state.take(alloc, bytes)?;
         self.spoiled = false;
-        Ok(Delivered::Taken)
+        Ok(delivered)
     }
 
     /// Gives the next frame of the answer, where one is to come. For the frame of a cell the cell runs, or is cancelled; the steps that

@@ -1,6 +1,7 @@
 // What holds of every visit.
-ghost use Rattle.std.specs.Prelude.{◌≡◌, ℕ, List, [], ◌∷◌, sum};
-ghost use Rattle.visit_meaning.specs.Answer.{Open, work};
+ghost use Rattle.std.specs.Prelude.{◌≡◌, ℕ, List, [], ◌∷◌, Some, sum};
+ghost use Rattle.messages.specs.declared.message.Message.TheVariants.{Open};
+ghost use Rattle.visit_meaning.specs.Answer.{work};
 ghost use Rattle.visit_meaning.specs.Whole.{whole};
 ghost use Rattle.kernel.specs.Visit.{Visit, begun};
 ghost use Rattle.kernel.specs.Calls.{Call, GoesOn, Leads, IsSolo, taken_by, given_by};
@@ -25,5 +26,5 @@ pub fn every_visit()
 /// The messages of a visitor who only opens a notebook cost what the whole notebook costs.
 pub fn opening_costs()
     ensures whole { (nb : List Cell) (budget : ℕ)
-        → work nb budget (Open ∷ []) ≡ sum (whole nb budget []).costs }
+        → work nb budget (Some Open ∷ []) ≡ sum (whole nb budget []).costs }
 {}

@@ -6,6 +6,7 @@ ghost use Rattle.py_tree.specs.View.{view_cells};
 
 mod cell_run;
 mod deliver;
+mod setting;
 mod step;
 
 use crate::pending::Pending;

@@ -1,8 +1,8 @@
 -- Calls of the kernel one after the other, with what goes over the link.
-use Rattle.std.proofs.Common.{◌≡◌, ◌∙◌, refl, sym, ap, subst, ℕ, List, [], ◌∷◌, ◌++◌, append_assoc, append-nil, length, map, arith}
+use Rattle.std.proofs.Common.{◌≡◌, ◌∙◌, inr, refl, sym, ap, subst, ℕ, List, [], ◌∷◌, ◌++◌, append_assoc, append-nil, length, map, arith}
 use Rattle.std.proofs.lemmas.List.{map-append}
 use Rattle.std.proofs.lemmas.List.Elements.{All-append, All-cons, All-nil}
-use Rattle.std.specs.Prelude.{All, Option, false}
+use Rattle.std.specs.Prelude.{All, Option, Some, None, false}
 use Rattle.frame_meaning.specs.FrameText.{frame_text}
 use Rattle.frames.specs.declared.frame.Frame.{Frame}
 use Rattle.kernel.proofs.CallsInTurn.{given_append, leads_append, taken_append}
@@ -12,16 +12,20 @@ use Rattle.kernel.specs.declared.answers.Delivered.{Delivered}
 use Rattle.kernel.specs.declared.answers.Delivered.TheVariants as delivered
 use Rattle.kernel.specs.declared.answers.Stepped.TheVariants as stepped
 use Rattle.link_io.specs.Links.{Item, Told}
+use Rattle.message_meaning.proofs.Shapes.{one}
+use Rattle.message_meaning.specs.Messages.{IsReceived}
+use Rattle.messages.specs.declared.message.Message.{Message}
+use Rattle.messages.specs.declared.message.Message.TheVariants.{Close}
 use Rattle.session.proofs.Talking.{talked_both, talked_none}
-use Rattle.session.specs.Progress.{Breaks, Drains, Stops, Went}
-use Rattle.session.specs.Talks.{IsNoClose, Talked, bytes_of}
+use Rattle.session.specs.Progress.{Breaks, Closes, Drains, Stops, Went}
+use Rattle.session.specs.Talks.{IsOther, Talked, bytes_of}
 use Rattle.session.specs.declared.unsent.Unsent.{Unsent}
 use Rattle.session.specs.declared.unsent.Unsent.TheVariants as unsent
 
 -- no call yet, and messages that were taken from the link alone
 pub went_heard : (v : Visit) (count : ℕ) (before : Option Told) (items : List Item) (now : Option Told) → Talked before now items []
     → Went v count before [] items v count now
-went_heard v count before items now talked = record { calls = []; led = (refl, refl); took = refl; talked = talked }
+went_heard v count before items now talked = record { calls = []; led = (refl, refl); took = refl; unclosed = All-nil IsOther; talked = talked }
 
 pub went_none : (v : Visit) (count : ℕ) (before : Option Told) → Went v count before [] [] v count before
 went_none v count before = went_heard v count before [] before (talked_none before)
@@ -31,11 +35,12 @@ pub went_both : {v : Visit} {count : ℕ} {before : Option Told} {bs : List (Lis
     {cs : List (List ℕ)} {js : List Item} {x : Visit} {count_after : ℕ} {now : Option Told}
     → Went v count before bs is w count_mid mid → Went w count_mid mid cs js x count_after now
     → Went v count before (bs ++ cs) (is ++ js) x count_after now
-went_both {v = v} {count = count} {before = before} {is = is} {w = w} {count_mid = count_mid} {mid = mid} {js = js} {x = x} {count_after = count_after} {now = now} f g =
+went_both {v = v} {count = count} {before = before} {bs = bs} {is = is} {w = w} {count_mid = count_mid} {mid = mid} {cs = cs} {js = js} {x = x} {count_after = count_after} {now = now} f g =
     record {
       calls = f.calls ++ g.calls;
       led = leads_append f.calls g.calls v w x count count_mid count_after f.led g.led;
       took = taken_append f.calls g.calls ∙ (λ i. f.took i ++ g.took i);
+      unclosed = All-append IsOther bs cs f.unclosed g.unclosed;
       talked = subst (Talked before now (is ++ js))
           (sym (map-append frame_text (given_by f.calls) (given_by g.calls)) ∙ ap (map frame_text) (sym (given_append f.calls g.calls)))
           (talked_both before mid now is js (map frame_text (given_by f.calls)) (map frame_text (given_by g.calls)) f.talked g.talked);
@@ -47,18 +52,35 @@ pub went_frame : {v : Visit} {count : ℕ} {before : Option Told} {w : Visit} {c
     → Gives f w x count_mid count_after → Talked mid now [] (frame_text f ∷ []) → Went v count before [] [] x count_after now
 went_frame {w = w} {count_mid = count_mid} {mid = mid} f x count_after now so_far gives talked =
     let next : Went w count_mid mid [] [] x count_after now =
-    record { calls = Step (stepped.Frame f) ∷ []; led = (x, count_after, gives, (refl, refl)); took = refl; talked = talked } in
+    record { calls = Step (stepped.Frame f) ∷ []; led = (x, count_after, gives, (refl, refl)); took = refl; unclosed = All-nil IsOther; talked = talked } in
     went_both so_far next
 
--- a message is delivered where nothing is to come
+-- bytes that are received as another message are no close message
+other_received : (bytes : List ℕ) (m : Option Message) → IsReceived bytes m → (m ≡ Some Close → ⊥) → IsOther bytes
+other_received bytes None is other close = is Close close
+other_received bytes (Some m) is other close = other (ap Some (one bytes m Close is close))
+
+-- a message is delivered where nothing is to come, and doesn't close the visit
 pub went_delivered : (bytes : List ℕ) (d : Delivered) (v w : Visit) (count : ℕ) (told : Option Told) → v.pending ≡ [] → IsDelivery bytes v w d
-    → Went v count told (bytes ∷ []) [] w count told
-went_delivered bytes (delivered.Busy pending) v w count told none does =
+    → (d ≡ delivered.Closed → ⊥) → Went v count told (bytes ∷ []) [] w count told
+went_delivered bytes (delivered.Busy pending) v w count told none does other =
     let empty = ap length none in
     let some = does.0 in
     absurd (omega arith)
-went_delivered bytes delivered.Taken v w count told none does =
-    record { calls = Deliver bytes delivered.Taken ∷ []; led = (w, does, (refl, refl)); took = refl; talked = talked_none told }
+went_delivered bytes delivered.Taken v w count told none does other = record {
+  calls = Deliver bytes delivered.Taken ∷ [];
+  led = (w, does, (refl, refl));
+  took = refl;
+  unclosed = All-cons IsOther bytes [] (other_received bytes does.1.0 does.1.1 (λ same. does.1.2 (inr same))) (All-nil IsOther);
+  talked = talked_none told;
+}
+went_delivered bytes delivered.Closed v w count told none does other = absurd (other refl)
+
+-- a message that closes the visit
+pub closes : (bytes : List ℕ) (v w : Visit) (count : ℕ) (told : Option Told) → IsDelivery bytes v w delivered.Closed
+    → Closes v count told bytes w count told
+closes bytes v w count told does =
+    record { message = does.1.0; is = does.1.1; last = does.1.2; visit = does.1.3; steps = refl; told = refl }
 
 -- no frame is to come
 pub drains_idle : {v : Visit} {count : ℕ} {before : Option Told} {w : Visit} {count_mid : ℕ} {now : Option Told}
@@ -165,37 +187,32 @@ breaks_undelivered bytes v count told none =
 
 -- ---- messages one after the other
 
--- These messages were taken from the link and answered, none of them the close message, and all frames were sent.
+-- These messages were taken from the link and answered, and all frames were sent.
 abbrev pub Answered : Visit → ℕ → Option Told → List Item → Visit → ℕ → Option Told → Type 0
 Answered v count before items w count_after now =
-    Went v count before (map bytes_of items) items w count_after now × (w.pending ≡ []) × Stands w
-    × All IsNoClose items × (w.spoiled ≡ false)
+    Went v count before (map bytes_of items) items w count_after now × (w.pending ≡ []) × Stands w × (w.spoiled ≡ false)
 
 -- the frames that were to come are sent
 pub answered_none : {v : Visit} {count : ℕ} {before : Option Told} {w : Visit} {count_after : ℕ} {now : Option Told}
     → Drains v count before [] w count_after now → Answered v count before [] w count_after now
-answered_none d = (d.went, d.over, d.stands, All-nil IsNoClose, d.sound)
+answered_none d = (d.went, d.over, d.stands, d.sound)
 
 bytes_more : (items : List Item) (m : Item) (bytes : List ℕ) → bytes_of m ≡ bytes → (map bytes_of items ++ []) ++ bytes ∷ [] ≡ map bytes_of (items ++ m ∷ [])
 bytes_more items m bytes is =
     (λ i. append-nil (map bytes_of items) i ++ sym is i ∷ []) ∙ sym (map-append bytes_of items (m ∷ []))
 
-pub unclosed_more : (items : List Item) (m : Item) → All IsNoClose items → IsNoClose m → All IsNoClose (items ++ m ∷ [])
-unclosed_more items m others this = All-append IsNoClose items (m ∷ []) others (All-cons IsNoClose m [] this (All-nil IsNoClose))
-
 -- one more message
 pub answered_next : {v : Visit} {count : ℕ} {before : Option Told} {items : List Item} {w : Visit} {count_mid : ℕ} {mid : Option Told}
     → (m : Item) (bytes : List ℕ) (heard : Option Told) (x : Visit) (count_after : ℕ) (now : Option Told)
-    → Answered v count before items w count_mid mid → bytes_of m ≡ bytes → IsNoClose m → Talked mid heard (m ∷ []) []
+    → Answered v count before items w count_mid mid → bytes_of m ≡ bytes → Talked mid heard (m ∷ []) []
     → Drains w count_mid heard (bytes ∷ []) x count_after now → Answered v count before (items ++ m ∷ []) x count_after now
-answered_next {v = v} {count = count} {before = before} {items = items} {w = w} {count_mid = count_mid} {mid = mid} m bytes heard x count_after now so_far is no_close taken d =
+answered_next {v = v} {count = count} {before = before} {items = items} {w = w} {count_mid = count_mid} {mid = mid} m bytes heard x count_after now so_far is taken d =
     let first = went_both so_far.0 (went_heard w count_mid mid (m ∷ []) heard taken) in
     let all = went_both first d.went in (
       subst (λ bs. Went v count before bs (items ++ m ∷ []) x count_after now) (bytes_more items m bytes is)
           (subst (λ js. Went v count before ((map bytes_of items ++ []) ++ bytes ∷ []) js x count_after now) (append-nil (items ++ m ∷ [])) all),
       d.over,
       d.stands,
-      unclosed_more items m so_far.3 no_close,
       d.sound,
     )
 

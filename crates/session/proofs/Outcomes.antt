@@ -1,21 +1,32 @@
 -- What stands when a session ends.
-use Rattle.std.proofs.Common.{◌<◌, ◌⊎◌, ◌≡◌, ◌∙◌, refl, sym, ap, subst, ℕ, ◌+◌, ◌≤◌, List, [], ◌∷◌, ◌++◌, append-nil, length, map, arith}
+use Rattle.std.proofs.Common.{◌<◌, ◌⊎◌, ◌≡◌, inl, inr, ◌∙◌, refl, sym, ap, subst, ℕ, ◌+◌, ◌≤◌, List, [], ◌∷◌, ◌++◌, append-nil, length, map, arith}
 use Rattle.std.proofs.lemmas.List.{length-map}
+use Rattle.std.proofs.lemmas.List.Elements.{All-cons, All-head, All-nil, All-tail}
 use Rattle.std.specs.Prelude.{All, Option}
 use Rattle.frame_meaning.specs.FrameText.{frame_text}
 use Rattle.kernel.proofs.SoloVisits.{goes_on}
 use Rattle.kernel.specs.Calls.{GoesOn, given_by, newest_after, parts_for, taken_by}
 use Rattle.kernel.specs.Visit.{Visit}
 use Rattle.link_io.specs.Links.{Item, Told}
-use Rattle.visit_meaning.specs.Answer.{cost_of_parts, frames_in}
-use Rattle.visit_meaning.specs.Messages.{AreMessages}
+use Rattle.visit_meaning.specs.Answer.{cost_of_parts, frames_in, state_after}
+use Rattle.message_meaning.specs.Messages.{IsReceived}
+use Rattle.message_meaning.specs.Sent.{AreReceived}
+use Rattle.py_tree.specs.View.{view_cells}
 use Rattle.session.proofs.Calling.{Answered}
 use Rattle.session.specs.Endings.{ended_for}
-use Rattle.session.specs.Progress.{Stops}
+use Rattle.session.specs.Progress.{Closes, Stops}
 use Rattle.session.specs.Serving.{Counts, IsCounted, IsCutShort, IsServed, Serves, message_count_limit}
-use Rattle.session.specs.Talks.{IsNoClose, Talked, bytes_of}
+use Rattle.session.specs.Talks.{AtEnd, IsNoClose, IsOther, TakesLast, Talked, bytes_of}
+use Rattle.session.specs.declared.ended.Ended.TheVariants as ended
 use Rattle.session.specs.declared.unsent.Unsent.{Unsent}
 use Rattle.session.specs.declared.unsent.Unsent.TheVariants as unsent
+
+-- messages whose bytes are no close message
+unclosed_of : (items : List Item) → All IsOther (map bytes_of items) → All IsNoClose items
+unclosed_of [] others = All-nil IsNoClose
+unclosed_of (m ∷ items) others =
+    All-cons IsNoClose m items (All-head IsOther (bytes_of m) (map bytes_of items) others)
+    (unclosed_of items (All-tail IsOther (bytes_of m) (map bytes_of items) others))
 
 -- all parts for the messages were given
 all_given : {v : Visit} {count : ℕ} {before : Option Told} {items : List Item} {w : Visit} {count_after : ℕ} {now : Option Told}
@@ -32,14 +43,14 @@ served {v = v} {count = count} {before = before} {items = items} {w = w} {count_
     let frames : given_by f.calls ≡ frames_in (parts_for v on.messages) = on.frames ∙ ap frames_in all in
     record {
       messages = on.messages;
-      are = subst (λ bs. AreMessages bs on.messages) f.took on.are;
-      unclosed = a.3;
+      are = subst (λ bs. AreReceived bs on.messages) f.took on.are;
+      unclosed = unclosed_of items f.unclosed;
       talked = subst (Talked before now items) (ap (map frame_text) frames) f.talked;
       over = a.1;
       state = on.state;
       newest = on.newest ∙ ap (newest_after v.newest) frames;
       stands = a.2;
-      sound = a.4;
+      sound = a.3;
       nb = on.nb;
       budget = on.budget;
     }
@@ -51,11 +62,58 @@ counted {v = v} {count = count} {w = w} {count_after = count_after} a =
     let on : GoesOn v (taken_by f.calls) (given_by f.calls) w count count_after = goes_on f.calls v w count count_after f.led in
     record {
       messages = on.messages;
-      are = subst (λ bs. AreMessages bs on.messages) f.took on.are;
+      are = subst (λ bs. AreReceived bs on.messages) f.took on.are;
       texts = map frame_text (given_by f.calls);
       talked = f.talked;
       steps = on.steps ∙ ap (λ ps. count + cost_of_parts ps) (all_given a on);
     }
+
+state_counted : {v : Visit} {count : ℕ} {before : Option Told} {items : List Item} {w : Visit} {count_after : ℕ} {now : Option Told}
+    → (a : Answered v count before items w count_after now) → w.state ≡ state_after (view_cells v.nb) v.budget v.state (counted a).messages
+unfolding counted
+state_counted {v = v} {count = count} {w = w} {count_after = count_after} a =
+    let on : GoesOn v (taken_by a.0.calls) (given_by a.0.calls) w count count_after = goes_on a.0.calls v w count count_after a.0.led in on.state
+
+-- the session ends at the end of the link,
+pub closed_at_end : {v : Visit} {count : ℕ} {before : Option Told} {items : List Item} {w : Visit} {count_after : ℕ} {mid : Option Told}
+    → (now : Option Told) → Answered v count before items w count_after mid → length items < message_count_limit → AtEnd mid now
+    → Serves ended.Closed v before w now
+closed_at_end {items = items} {w = w} {mid = mid} now a few at_end = (items, few, w, mid, served a, inl (at_end, refl))
+
+pub counts_at_end : {v : Visit} {count : ℕ} {before : Option Told} {items : List Item} {w : Visit} {count_after : ℕ} {mid : Option Told}
+    → (now : Option Told) → Answered v count before items w count_after mid → AtEnd mid now → Counts ended.Closed v before count count_after now
+counts_at_end {items = items} {mid = mid} now a at_end = (items, mid, counted a, inl at_end)
+
+-- or at the message that closes the visit
+last_taken : {v : Visit} {count : ℕ} {mid : Option Told} (m : Item) (bytes : List ℕ) (heard : Option Told) (w : Visit) (count_after : ℕ) (now : Option Told)
+    → bytes_of m ≡ bytes → Talked mid heard (m ∷ []) [] → Closes v count heard bytes w count_after now → TakesLast v.state mid now
+last_taken {mid = mid} m bytes heard w count_after now is taken c = record {
+  item = m;
+  message = c.message;
+  is = subst (λ b. IsReceived b c.message) (sym is) c.is;
+  last = c.last;
+  talked = subst (λ t. Talked mid t (m ∷ []) []) (sym c.told) taken;
+}
+
+pub closed_by : {v : Visit} {count : ℕ} {before : Option Told} {items : List Item} {w : Visit} {count_mid : ℕ} {mid : Option Told}
+    → (m : Item) (bytes : List ℕ) (heard : Option Told) (x : Visit) (count_after : ℕ) (now : Option Told)
+    → Answered v count before items w count_mid mid → length items < message_count_limit → bytes_of m ≡ bytes → Talked mid heard (m ∷ []) []
+    → Closes w count_mid heard bytes x count_after now → Serves ended.Closed v before x now
+closed_by {items = items} {w = w} {mid = mid} m bytes heard x count_after now a few is taken c =
+    (items, few, w, mid, served a, inr (last_taken m bytes heard x count_after now is taken c, c.visit))
+
+pub counts_by : {v : Visit} {count : ℕ} {before : Option Told} {items : List Item} {w : Visit} {count_mid : ℕ} {mid : Option Told}
+    → (m : Item) (bytes : List ℕ) (heard : Option Told) (x : Visit) (count_after : ℕ) (now : Option Told)
+    → Answered v count before items w count_mid mid → bytes_of m ≡ bytes → Talked mid heard (m ∷ []) []
+    → Closes w count_mid heard bytes x count_after now → Counts ended.Closed v before count count_after now
+counts_by {v = v} {count = count} {before = before} {items = items} {w = w} {mid = mid} m bytes heard x count_after now a is taken c =
+    let last = last_taken m bytes heard x count_after now is taken c in
+    let there = counted a in (
+      items,
+      mid,
+      record { messages = there.messages; are = there.are; texts = there.texts; talked = there.talked; steps = c.steps ∙ there.steps },
+      inr (subst (λ s. TakesLast s mid now) (state_counted a) last),
+    )
 
 -- ---- where it went no further
 
@@ -94,9 +152,9 @@ none_left (m ∷ items) e = absurd (cc)
 
 -- the parts that were given are a prefix of those for the messages that the kernel took
 abbrev broke : {why : Unsent} {v : Visit} {count : ℕ} {before : Option Told} {items : List Item} {count_after : ℕ} {now : Option Told}
-    → (b : Stops why v count before (map bytes_of items) items count_after now) → All IsNoClose items → length items ≤ message_count_limit
+    → (b : Stops why v count before (map bytes_of items) items count_after now) → length items ≤ message_count_limit
     → IsCutShort v before now
-broke {v = v} {count = count} {items = items} b unclosed few =
+broke {v = v} {count = count} {items = items} b few =
     let f = b.went in
     let on : GoesOn v (taken_by f.calls) (given_by f.calls) b.at count b.count_at = goes_on f.calls v b.at count b.count_at f.led in
     let p : Parted items b.took b.left = parted items b.took b.left b.are in
@@ -110,9 +168,9 @@ broke {v = v} {count = count} {items = items} b unclosed few =
       are_all = p.all;
       one = omega arith;
       few = few;
-      unclosed = unclosed;
+      unclosed = unclosed_of p.heard (subst (All IsOther) (sym p.heard_are) f.unclosed);
       messages = on.messages;
-      are = subst (λ bs. AreMessages bs on.messages) (f.took ∙ sym p.heard_are) on.are;
+      are = subst (λ bs. AreReceived bs on.messages) (f.took ∙ sym p.heard_are) on.are;
       texts = map frame_text (given_by f.calls);
       talked = f.talked;
       begin = record { sent = on.parts; rest = b.at.pending; whole = sym on.whole; texts = ap (map frame_text) on.frames };
@@ -120,25 +178,25 @@ broke {v = v} {count = count} {items = items} b unclosed few =
 
 pub serves_cut : {v : Visit} {count : ℕ} {before : Option Told} {count_after : ℕ} {now : Option Told}
     → (why : Unsent) (items : List Item) (after : Visit) → (b : Stops why v count before (map bytes_of items) items count_after now)
-    → All IsNoClose items → length items ≤ message_count_limit
+    → length items ≤ message_count_limit
     → (why ≡ unsent.Failed → (length items < message_count_limit) ⊎ (b.at.pending ≡ [] → ⊥)) → Serves (ended_for why) v before after now
-serves_cut unsent.Failed items after b unclosed few room =
+serves_cut unsent.Failed items after b few room =
     let none = (b.exact refl).0 in
     let p : Parted items b.took b.left = parted items b.took b.left b.are in
-    (broke b unclosed few, none_left p.untaken (p.untaken_are ∙ none), room refl)
-serves_cut unsent.Memory items after b unclosed few room = broke b unclosed few
+    (broke b few, none_left p.untaken (p.untaken_are ∙ none), room refl)
+serves_cut unsent.Memory items after b few room = broke b few
 
 pub counts_cut : {v : Visit} {count : ℕ} {before : Option Told} {count_after : ℕ} {now : Option Told}
     → (why : Unsent) (items : List Item) → Stops why v count before (map bytes_of items) items count_after now
-    → All IsNoClose items → length items ≤ message_count_limit → Counts (ended_for why) v before count count_after now
-counts_cut {v = v} {count = count} unsent.Failed items b unclosed few =
+    → length items ≤ message_count_limit → Counts (ended_for why) v before count count_after now
+counts_cut {v = v} {count = count} unsent.Failed items b few =
     let steps = (b.exact refl).1 in
     let on : GoesOn v (taken_by b.went.calls) (given_by b.went.calls) b.at count b.count_at = goes_on b.went.calls v b.at count b.count_at b.went.led in
     let so_far = on.steps in
-    (broke b unclosed few, omega arith)
-counts_cut {v = v} {count = count} unsent.Memory items b unclosed few =
+    (broke b few, omega arith)
+counts_cut {v = v} {count = count} unsent.Memory items b few =
     let least = b.most.0 in
     let most = b.most.1 in
     let on : GoesOn v (taken_by b.went.calls) (given_by b.went.calls) b.at count b.count_at = goes_on b.went.calls v b.at count b.count_at b.went.led in
     let so_far = on.steps in
-    (broke b unclosed few, omega arith, omega arith)
+    (broke b few, omega arith, omega arith)

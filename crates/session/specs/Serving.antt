@@ -2,13 +2,16 @@
 use Rattle.std.specs.Prelude.{◌≡◌, ℕ, ◌+◌, ◌<◌, ◌≤◌, ◌⊎◌, All, List, [], ◌∷◌, ◌++◌, false, length, map, Option, Some}
 use Rattle.frame_meaning.specs.FrameText.{frame_text}
 use Rattle.kernel.specs.Calls.{newest_after, parts_for}
-use Rattle.kernel.specs.Visit.{Stands, Visit, first_cost}
+use Rattle.kernel.specs.Visit.{Stands, Visit, closed, first_cost}
+use Rattle.message_meaning.specs.Messages.{IsMessage}
+use Rattle.message_meaning.specs.Sent.{AreReceived}
+use Rattle.messages.specs.declared.message.Message.{Message}
+use Rattle.messages.specs.declared.message.Message.TheVariants.{Close}
 use Rattle.link_io.specs.Links.{Item, Told}
 use Rattle.py_tree.specs.View.{view_cells}
 use Rattle.py_tree.specs.declared.tree.CellCode.{CellCode}
-use Rattle.visit_meaning.specs.Answer.{Message, Part, cost_of_parts, frames_in, solo, state_after}
-use Rattle.visit_meaning.specs.Messages.{AreMessages}
-use Rattle.session.specs.Talks.{IsNoClose, IsOver, Talked, bytes_of, close_text, texts_of}
+use Rattle.visit_meaning.specs.Answer.{Part, cost_of_parts, frames_in, solo, state_after}
+use Rattle.session.specs.Talks.{AtEnd, IsNoClose, IsOver, TakesLast, Talked, bytes_of, texts_of}
 use Rattle.session.specs.declared.ended.Ended.{Ended}
 use Rattle.session.specs.declared.ended.Ended.TheVariants as ended
 
@@ -16,8 +19,8 @@ use Rattle.session.specs.declared.ended.Ended.TheVariants as ended
 -- were still to come, and those of a visitor alone who sends these messages from there on. No frame is to come; state and newest frames are
 -- those to which these lead, they stand as those of the whole notebook, and the kernel isn't spoiled.
 pub record IsServed (v : Visit) (before : Option Told) (items : List Item) (after : Visit) (now : Option Told) : Type 0 where
-  pub messages : List Message
-  pub are : AreMessages (map bytes_of items) messages
+  pub messages : List (Option Message)
+  pub are : AreReceived (map bytes_of items) messages
   pub unclosed : All IsNoClose items
   pub talked : Talked before now items (texts_of (parts_for v messages))
   pub over : after.pending ≡ []
@@ -39,9 +42,9 @@ pub record ArePrefix (parts : List Part) (these : List (List ℕ)) : Type 0 wher
 abbrev pub message_count_limit : ℕ
 message_count_limit = 1000000
 
--- Messages were taken, none of them the close message, and texts were sent, which are a prefix of those for the messages that the kernel took:
--- for all that were taken from the link, but for one at most, where memory was wanting. That no close message is among them says also that no message is
--- taken before all texts so far were sent: it might be the close message, and then the sending might fail.
+-- Messages were taken, and texts were sent, which are a prefix of those for the messages that the kernel took: for all that were taken from the
+-- link, but for one at most, where memory was wanting. None that the kernel took is a close message. That says also that no message is taken
+-- before all texts so far were sent: it might be a close message, and then the sending might fail.
 pub record IsCutShort (v : Visit) (before now : Option Told) : Type 0 where
   pub items : List Item
   pub heard : List Item
@@ -49,18 +52,22 @@ pub record IsCutShort (v : Visit) (before now : Option Told) : Type 0 where
   pub are_all : items ≡ heard ++ untaken
   pub one : length untaken ≤ 1
   pub few : length items ≤ message_count_limit
-  pub unclosed : All IsNoClose items
-  pub messages : List Message
-  pub are : AreMessages (map bytes_of heard) messages
+  pub unclosed : All IsNoClose heard
+  pub messages : List (Option Message)
+  pub are : AreReceived (map bytes_of heard) messages
   pub texts : List (List ℕ)
   pub talked : Talked before now items texts
   pub begin : ArePrefix (parts_for v messages) texts
 
--- What was taken and sent when a session ends. Where it was closed, nothing more was read than the close message, if there was one. Where the
--- link failed, not so many messages were answered as one call answers.
+-- A visit over a link is over: no message is left, or the next one closed it. The newest frames stay as they are.
+abbrev pub EndsAt : Visit → Option Told → Visit → Option Told → Type 0
+EndsAt v before after now = (AtEnd before now × (after ≡ v)) ⊎ (TakesLast v.state before now × (after ≡ closed v))
+
+-- What was taken and sent when a session ends. Where it was closed, nothing more was read than the message that closed it, if there was one.
+-- Where the link failed, not so many messages were answered as one call answers.
 abbrev pub Serves : Ended → Visit → Option Told → Visit → Option Told → Type 0
 Serves ended.Closed v before after now = (items : List Item) × (length items < message_count_limit)
-    × (mid : Option Told) × IsServed v before items after mid × IsOver mid now
+    × (at : Visit) × (mid : Option Told) × IsServed v before items at mid × EndsAt at mid after now
 Serves ended.TooMany v before after now = (items : List Item) × (length items ≡ message_count_limit) × IsServed v before items after now
 Serves ended.LinkFault v before after now = (c : IsCutShort v before now) × (c.untaken ≡ [])
     × ((length c.items < message_count_limit) ⊎ (c.begin.rest ≡ [] → ⊥))
@@ -68,8 +75,8 @@ Serves ended.Memory v before after now = IsCutShort v before now
 
 -- these messages were taken, and exactly the steps of the parts for them were counted
 pub record IsCounted (v : Visit) (before : Option Told) (items : List Item) (count count_after : ℕ) (now : Option Told) : Type 0 where
-  pub messages : List Message
-  pub are : AreMessages (map bytes_of items) messages
+  pub messages : List (Option Message)
+  pub are : AreReceived (map bytes_of items) messages
   pub texts : List (List ℕ)
   pub talked : Talked before now items texts
   pub steps : count_after ≡ count + cost_of_parts (parts_for v messages)
@@ -78,7 +85,8 @@ pub record IsCounted (v : Visit) (before : Option Told) (items : List Item) (cou
 -- there was one; where memory was wanting, at most these.
 abbrev pub Counts : Ended → Visit → Option Told → (count count_after : ℕ) → Option Told → Type 0
 Counts ended.Closed v before count count_after now =
-    (items : List Item) × (mid : Option Told) × IsCounted v before items count count_after mid × IsOver mid now
+    (items : List Item) × (mid : Option Told) × (c : IsCounted v before items count count_after mid)
+    × IsOver (state_after (view_cells v.nb) v.budget v.state c.messages) mid now
 Counts ended.TooMany v before count count_after now = (items : List Item) × IsCounted v before items count count_after now
 Counts ended.LinkFault v before count count_after now = (c : IsCutShort v before now)
     × (count_after ≡ count + cost_of_parts c.begin.sent + first_cost c.begin.rest)
@@ -87,16 +95,16 @@ Counts ended.Memory v before count count_after now = (c : IsCutShort v before no
 
 -- what was sent over a link are the texts of the frames of a visitor alone who sends these messages
 pub record SentSolo (nb : List CellCode) (budget : ℕ) (items : List Item) (now : Told) : Type 0 where
-  pub messages : List Message
-  pub are : AreMessages (map bytes_of items) messages
+  pub messages : List (Option Message)
+  pub are : AreReceived (map bytes_of items) messages
   pub texts : now.sent ≡ map frame_text (solo (view_cells nb) budget messages)
 
 -- of these messages, the texts of a visitor alone who sends the first ones were sent up to some place
 pub record SentSome (nb : List CellCode) (budget : ℕ) (all heard untaken : List Item) (now : Told) : Type 0 where
-  pub messages : List Message
-  pub are : AreMessages (map bytes_of heard) messages
+  pub messages : List (Option Message)
+  pub are : AreReceived (map bytes_of heard) messages
   pub taken : now.taken ≡ heard ++ untaken
-  pub unclosed : All IsNoClose now.taken
+  pub unclosed : All IsNoClose heard
   pub all_are : now.taken ++ now.left ≡ all
   pub rest : List (List ℕ)
   pub texts : now.sent ++ rest ≡ map frame_text (solo (view_cells nb) budget messages)
@@ -107,4 +115,4 @@ pub record SentClosed (nb : List CellCode) (budget : ℕ) (all : List Item) (now
   pub unclosed : All IsNoClose read
   pub answered : SentSolo nb budget read now
   pub all_are : now.taken ++ now.left ≡ all
-  pub ends : ((read ≡ all) × (now.taken ≡ all)) ⊎ (now.taken ≡ read ++ Some close_text ∷ [])
+  pub ends : ((read ≡ all) × (now.taken ≡ all)) ⊎ ((m : Item) × IsMessage (bytes_of m) Close × (now.taken ≡ read ++ m ∷ []))

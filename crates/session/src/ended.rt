@@ -3,7 +3,7 @@
 /// How a session ended.
 #[derive(Clone, Copy, Debug, PartialEq, Eq)]
 pub enum Ended {
-    /// The link was read to its end or to a close message, and all frames were sent.
+    /// The link was read to its end, or a message closed the visit; all frames were sent.
     Closed,
     /// The link failed.
     LinkFault,

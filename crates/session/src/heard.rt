@@ -5,8 +5,6 @@
 pub enum Heard {
     /// A message, by the bytes that a kernel is given for it.
     Message(Vec<u8>),
-    /// The message that ends the session.
-    Close,
     /// No message is left.
     End,
     /// The link failed.

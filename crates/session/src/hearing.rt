@@ -7,9 +7,6 @@ use crate::heard::Heard;
 use link_io::{Link, Received};
 use std::alloc::Global;
 
-// The message that ends a session.
-const CLOSE_MESSAGE: &str = "{\"close\":{}}";
-
 /// Takes the visitor's next message. For what is no text the kernel is given no bytes, which are no message.
 pub fn hear<K: Link>(alloc: Global, link: &mut K) -> Heard
     ensures hears { Hears (K.told link.old) (K.told link.new) result }
@@ -17,13 +14,7 @@ pub fn hear<K: Link>(alloc: Global, link: &mut K) -> Heard
     ensures failed { result ≡ Heard.Failed → Rose (K.faults link.old) (K.faults link.new) }
 {
     match link.recv() {
-        Received::Text(bytes) => {
-            if bytes.as_slice() == CLOSE_MESSAGE.as_bytes() {
-                Heard::Close
-            } else {
-                Heard::Message(bytes)
-            }
-        }
+        Received::Text(bytes) => Heard::Message(bytes),
         Received::Other => Heard::Message(Vec::new(alloc)),
         Received::End => Heard::End,
         Received::Failed => Heard::Failed,

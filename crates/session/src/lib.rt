@@ -1,6 +1,7 @@
 //! One visitor is served over a link.
 #![tactic(auto)]
 
+mod answer;
 mod ended;
 mod heard;
 mod hearing;

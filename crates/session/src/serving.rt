@@ -1,16 +1,17 @@
 // The serving of one visitor.
-ghost use Rattle.std.specs.Prelude.{◌≡◌, ◌≤◌, ◌∷◌, [], IfErr, OnOk};
+ghost use Rattle.std.specs.Prelude.{◌≡◌, ◌≤◌, ◌∷◌, [], IfErr, IfOk};
 ghost use Rattle.link_io.specs.Outside.{Rose};
 ghost use Rattle.session.specs.Endings.{ended_for};
-ghost use Rattle.session.specs.Progress.{Breaks, Drains};
+ghost use Rattle.session.specs.Progress.{Answers, Breaks};
 ghost use Rattle.session.specs.Serving.{Counts, Serves};
 
+use crate::answer::Answer;
 use crate::ended::Ended;
 use crate::heard::Heard;
 use crate::hearing::hear;
 use crate::sending::drain;
 use crate::unsent::Unsent;
-use kernel::Kernel;
+use kernel::{Delivered, Kernel};
 use link_io::Link;
 use py_eval::Steps;
 use std::alloc::Global;
@@ -30,7 +31,7 @@ fn ended_of(why: Unsent) -> Ended
     }
 }
 
-// Answers a message.
+// Answers a message, unless it closes the visit.
 fn answer_message<'n, K: Link, L: Ledger>(
     alloc: Global,
     kernel: &mut Kernel<'n>,
@@ -38,18 +39,21 @@ fn answer_message<'n, K: Link, L: Ledger>(
     text: &mut Vec<u8>,
     link: &mut K,
     steps: &mut Steps<L>,
-) -> Result<(), Unsent>
+) -> Result<Answer, Unsent>
     requires { kernel.old.pending ≡ [] }
-    ensures answered { OnOk result
-        (Drains kernel.old steps.old (K.told link.old) (bytes.now ∷ []) kernel.new steps.new (K.told link.new)) }
+    ensures answered { IfOk result
+        (λ came. Answers came kernel.old steps.old (K.told link.old) bytes.now kernel.new steps.new (K.told link.new)) }
     ensures broke { IfErr result
         (λ why. Breaks why kernel.old steps.old (K.told link.old) (bytes.now ∷ []) [] steps.new (K.told link.new)) }
     ensures later { K.faults link.old ≤ K.faults link.new }
     ensures failed { IfErr result
         (λ why. why ≡ Unsent.Failed → Rose (K.faults link.old) (K.faults link.new)) }
 {
-    let _taken = kernel.deliver(alloc, bytes)?;
-    drain(alloc, kernel, text, link, steps)
+    if let Delivered::Closed = kernel.deliver(alloc, bytes)? {
+        return Ok(Answer::Closed);
+    }
+    drain(alloc, kernel, text, link, steps)?;
+    Ok(Answer::Sent)
 }
 
 /// Serves a visitor over a link. It sends the frames that are still to come, and then answers one message after the other, 1,000,000 at
@@ -76,18 +80,12 @@ pub fn serve_visitor<'n, R: Wait, K: Link, L: Ledger>(
     for _ in 0..MESSAGE_COUNT_LIMIT {
         match hear(alloc, link) {
             Heard::Message(bytes) => {
-                if let Err(why) = answer_message(
-                    alloc,
-                    kernel,
-                    bytes.as_slice(),
-                    &mut text,
-                    link,
-                    steps,
-                ) {
-                    return ended_of(why);
+                match answer_message(alloc, kernel, bytes.as_slice(), &mut text, link, steps) {
+                    Ok(Answer::Sent) => {}
+                    Ok(Answer::Closed) => return Ended::Closed,
+                    Err(why) => return ended_of(why),
                 }
             }
-            Heard::Close => return Ended::Closed,
             Heard::End => return Ended::Closed,
             Heard::Failed => return Ended::LinkFault,
             Heard::Memory => return Ended::Memory,

@@ -22,5 +22,7 @@ pub mod AtKept
 pub mod RerunSuffices
 pub mod Standing
 pub mod AfterCells
+-- For those who serve visits.
+pub mod Endings
 -- For `elements_in_being`.
 pub mod PresentValues

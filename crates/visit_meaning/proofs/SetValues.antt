@@ -166,12 +166,12 @@ value_alike d (one_element e present) = admitted_alike e.kind e present d
 pub like_value : (before env : Env) (s : Name × Value) → IsLike before env → value_set env s ≡ value_set before s
 like_value before env s like = value_alike (data_of s.1) (like s.0)
 
-laid_alike : (x : Name) (v : Option Data) (env : Env) {o p : Option ElementData} → SameButPresent o p → with_element x p v env ≡ with_element x o v env
+pub laid_alike : (x : Name) (v : Option Data) (env : Env) {o p : Option ElementData} → SameButPresent o p → with_element x p v env ≡ with_element x o v env
 laid_alike x v env no_element = refl
 laid_alike x None env (one_element e d) = refl
 laid_alike x (Some now) env (one_element e d) = refl
 
-like_laid : (before env : Env) (x : Name) (o : Option ElementData) (v : Option Data) → element_in before x ≡ o → IsLike before env
+pub like_laid : (before env : Env) (x : Name) (o : Option ElementData) (v : Option Data) → element_in before x ≡ o → IsLike before env
     → IsLike before (with_element x o v env)
 like_laid before env x None v is like y = like y
 like_laid before env x (Some e) None is like y = like y

@@ -1,178 +1,133 @@
 // What a visitor's messages change.
-ghost use Rattle.std.specs.Prelude.{◌≡◌, [], ◌∷◌, ◌<◌, All, IfOk, IsSome, OnOk, Some, false, true, flat_map, length, not, option_copied};
+ghost use Rattle.std.specs.Prelude.{◌≡◌, All, IfOk, IsSome, List, OnOk, Some, false};
 ghost use Rattle.kernel.specs.KernelState.{IsKept, visit_of};
-ghost use Rattle.kernel.specs.Visit.{Takes};
+ghost use Rattle.kernel.specs.Sets.{AreAdmitted};
+ghost use Rattle.kernel.specs.Visit.{IsDelivery, Takes, closed};
 ghost use Rattle.kernel.specs.declared.pending.Pending.TheVariants as pending;
-ghost use Rattle.visit_meaning.specs.Answer.{Open, Set, element_in, value_set};
-ghost use Rattle.visit_meaning.specs.Answer as answer;
-ghost use Rattle.graph_meaning.specs.Graph.{elements_of};
-ghost use Rattle.visit_meaning.specs.Messages.{IsMessage};
-ghost use Rattle.visit_meaning.specs.WithElement.{with_element};
-ghost use Rattle.py_tree.specs.Names.{is_among};
-ghost use Rattle.py_tree.specs.View.{view_cells};
-ghost use Rattle.py_value.specs.Maps.{IsSortedMap, where_name};
-ghost use Rattle.py_value.specs.View.{data_of};
-ghost use Rattle.py_value.specs.declared.types.Value.{Value};
-ghost use Rattle.py_value.specs.declared.types.Value.TheVariants as V;
+ghost use Rattle.kernel.specs.declared.state.Phase.TheVariants as phases;
+ghost use Rattle.message_meaning.specs.Messages.{IsReceived};
+ghost use Rattle.messages.specs.declared.message.Message.TheVariants.{Open, Set};
+ghost use Rattle.messages.specs.declared.message.SetItem.{SetItem};
+ghost use Rattle.visit_meaning.specs.Answer.{element_in};
 
-use crate::message::{Message, read_message};
+use crate::answers::Delivered;
 use crate::pending::{Cells, Pending};
-use crate::state::KernelState;
+use crate::state::setting::{
+    SetFault, admitted, drop_created, keep_values, names_of, set_elements,
+};
+use crate::state::{KernelState, Phase};
 use cell_graph::Notebook;
 use frames::Frame;
-use py_eval::Env;
-use py_value::{Element, Lines, Memory, Text, Value, copy};
-use run_meaning::Binding;
+use message_json::{MessageFault, read_message};
+use messages::{Message, SetItems};
+use py_value::{Memory, Text, Value};
 use std::alloc::Global;
-use ui_elements::{AdmitFault, Present, admit};
+use ui_elements::Present;
 
-// The element in being of this name.
-fn element_in<'e>(env: &'e Env, name: &str) -> Option<&'e Element>
-    ensures { option_copied result ≡ element_in env.now name.now }
+// The message that bytes are; none where they are no message.
+fn received(alloc: Global, bytes: &[u8]) -> Result<Option<Message>, Memory>
+    ensures { IfOk result (λ m. IsReceived bytes.now m) }
 {
-    match env.get(name)? {
-        Binding::Plain(Value::Element(element)) if element.name().items() == name => Some(element),
-        _ => None,
-    }
-}
-
-// The name as a text of its own.
-fn text_of(alloc: Global, name: &str) -> Result<Text, Memory>
-    ensures { IfOk result (λ text. text ≡ name.now) }
-{
-    Ok(Text::of(String::from_str(alloc, name)?))
-}
-
-// A list of this name alone.
-fn one_name(alloc: Global, name: &str) -> Result<Lines, Memory>
-    ensures { IfOk result (λ names. names ≡ name.now ∷ []) }
-{
-    let mut names = Vec::new(alloc);
-    names.push(text_of(alloc, name)?)?;
-    Ok(Lines::of(names))
-}
-
-// Gives the element in being of this name another present value.
-fn set_element(alloc: Global, env: &mut Env, name: &str, value: &Value) -> Result<(), Memory>
-    requires there { IsSome (element_in env.old name.now) }
-    requires sorted { IsSortedMap env.old }
-    ensures { OnOk result
-        (env.new ≡ with_element name.now (element_in env.old name.now)
-        (Some (data_of value.now)) env.old) }
-{
-    if let Some(Binding::Plain(Value::Element(mut element))) = env.remove(name) {
-        element.set_present(copy(alloc, value)?);
-        env.put(
-            text_of(alloc, name)?,
-            Binding::Plain(Value::Element(element)),
-        )?;
-    }
-    Ok(())
-}
-
-// Drops the values that are kept of elements which these cells create.
-fn drop_created(present: &mut Present, notebook: &Notebook, cells: &[u32])
-    requires { All (λ c. c < length notebook.now) cells.now }
-    ensures { present.new ≡ where_name
-        (λ x. not (is_among x (flat_map (elements_of (view_cells notebook.now)) cells.now)))
-        present.old }
-{
-    for cell in cells {
-        for name in notebook.elements_of(*cell).items() {
-            let _dropped = present.remove(name.items());
-        }
+    match read_message(alloc, bytes) {
+        Ok(message) => Ok(Some(message)),
+        Err(MessageFault::NotMessage) => Ok(None),
+        Err(MessageFault::Memory) => Err(Memory),
     }
 }
 
 impl<'n> KernelState<'n> {
-    /// Takes a message, whose answer is then to come.
-    pub fn take(&mut self, alloc: Global, bytes: &[u8]) -> Result<(), Memory>
+    /// Takes a message, whose answer is then to come, or closes the visit, where it is a close message or comes after one.
+    pub fn take(&mut self, alloc: Global, bytes: &[u8]) -> Result<Delivered, Memory>
         requires kept { IsKept self.old }
         requires free { self.old.pending ≡ pending.Nothing }
         ensures kept { OnOk result (IsKept self.new) }
-        ensures taken { OnOk result
-            ((m : answer.Message) × IsMessage bytes.now m
-            × Takes m (visit_of false self.old) (visit_of false self.new)) }
+        ensures delivers { IfOk result
+            (λ delivered. IsDelivery bytes.now (visit_of false self.old)
+            (visit_of false self.new) delivered) }
         ensures newest { self.new.newest ≡ self.old.newest }
     {
-        match read_message(bytes) {
-            Some(Message::Open) if !self.on => {
-                self.start();
-                Ok(())
+        match (self.phase, received(alloc, bytes)?) {
+            (Phase::Ended, _) | (_, Some(Message::Close)) => {
+                self.close(alloc);
+                return Ok(Delivered::Closed);
             }
-            Some(Message::Set { name, number }) if self.on => self.set(alloc, name, number),
-            Some(_) => {
-                self.pending = Pending::Refusal(Frame::BadOrder);
-                Ok(())
-            }
-            None => {
-                self.pending = Pending::Refusal(Frame::BadMessage);
-                Ok(())
-            }
+            (Phase::Before, Some(Message::Open)) => self.start(),
+            (Phase::On, Some(Message::Set(items))) => self.set(alloc, items)?,
+            (_, Some(_)) => self.pending = Pending::Refusal(Frame::BadOrder),
+            (_, None) => self.pending = Pending::Refusal(Frame::BadMessage),
         }
+        Ok(Delivered::Taken)
+    }
+
+    // Ends the visit. No value is kept from then on.
+    fn close(&mut self, alloc: Global)
+        requires kept { IsKept self.old }
+        requires free { self.old.pending ≡ pending.Nothing }
+        ensures kept { IsKept self.new }
+        ensures closed { visit_of false self.new ≡ closed (visit_of false self.old) }
+        ensures newest { self.new.newest ≡ self.old.newest }
+    {
+        self.phase = Phase::Ended;
+        self.present = Present::new(alloc);
     }
 
     // Opens the notebook: all cells are to run.
     fn start(&mut self)
         requires kept { IsKept self.old }
         requires free { self.old.pending ≡ pending.Nothing }
-        requires off { self.old.on ≡ false }
+        requires before { self.old.phase ≡ phases.Before }
         ensures kept { IsKept self.new }
-        ensures taken { Takes Open (visit_of false self.old) (visit_of false self.new) }
+        ensures taken { Takes (Some Open) (visit_of false self.old) (visit_of false self.new) }
         ensures newest { self.new.newest ≡ self.old.newest }
     {
         let notebook: &'n Notebook = self.notebook;
-        self.on = true;
+        self.phase = Phase::On;
         self.pending = Pending::Results {
             cells: Cells::Lent(notebook.order()),
             taken: 0,
         };
     }
 
-    // Sets the element of a name to a number, unless there is none of that name, or it doesn't admit the number.
-    fn set(&mut self, alloc: Global, name: &str, number: i128) -> Result<(), Memory>
+    // Sets the elements of these names, unless a name is no element's, or an element doesn't admit what is sent.
+    fn set(&mut self, alloc: Global, items: SetItems) -> Result<(), Memory>
         requires kept { IsKept self.old }
         requires free { self.old.pending ≡ pending.Nothing }
-        requires on { self.old.on ≡ true }
+        requires on { self.old.phase ≡ phases.On }
         ensures kept { OnOk result (IsKept self.new) }
         ensures taken { OnOk result
-            (Takes (Set ((name.now, V.Int number) ∷ [])) (visit_of false self.old)
-            (visit_of false self.new)) }
+            (Takes (Some (Set items)) (visit_of false self.old) (visit_of false self.new)) }
         ensures newest { self.new.newest ≡ self.old.newest }
     {
-        let Some(element) = element_in(&self.env, name) else {
-            self.pending = Pending::Refusal(Frame::NoElement(text_of(alloc, name)?));
-            return Ok(());
-        };
-        match admit(alloc, element, &Value::Int(number)) {
-            Ok(value) => self.keep_value(alloc, name, value),
-            Err(AdmitFault::NotAllowed) => {
-                self.pending = Pending::Refusal(Frame::NoValue(text_of(alloc, name)?));
+        match admitted(alloc, &self.env, items) {
+            Ok(sets) => self.keep(alloc, sets),
+            Err(SetFault::Refused(why)) => {
+                self.pending = Pending::Refusal(why);
                 Ok(())
             }
-            Err(AdmitFault::Memory) => Err(Memory),
+            Err(SetFault::Memory) => Err(Memory),
         }
     }
 
-    // Keeps a value that the element of a name admits. The element has it as its present value, and what depends on it is to run again;
+    // Keeps values that elements admit. The elements have them as their present values, and what depends on them is to run again;
     // the values of elements that will be created anew are dropped.
-    fn keep_value(&mut self, alloc: Global, name: &str, value: Value) -> Result<(), Memory>
+    fn keep(&mut self, alloc: Global, sets: Vec<(Text, Value)>) -> Result<(), Memory>
         requires kept { IsKept self.old }
         requires free { self.old.pending ≡ pending.Nothing }
-        requires on { self.old.on ≡ true }
-        requires there { IsSome (element_in self.old.env name.now) }
+        requires on { self.old.phase ≡ phases.On }
+        requires there { All (λ s. IsSome (element_in self.old.env s.0)) sets.items }
         ensures kept { OnOk result
-            ((sent : Value) → value_set self.old.env (name.now, sent) ≡ Some (data_of value)
+            ((items : List SetItem) → AreAdmitted self.old.env items sets.items
             → IsKept self.new) }
         ensures taken { OnOk result
-            ((sent : Value) → value_set self.old.env (name.now, sent) ≡ Some (data_of value)
-            → Takes (Set ((name.now, sent) ∷ [])) (visit_of false self.old)
-            (visit_of false self.new)) }
+            ((items : List SetItem) → AreAdmitted self.old.env items sets.items
+            → Takes (Some (Set items)) (visit_of false self.old) (visit_of false self.new)) }
         ensures newest { self.new.newest ≡ self.old.newest }
     {
-        set_element(alloc, &mut self.env, name, &value)?;
-        let again = self.notebook.rerun(alloc, &one_name(alloc, name)?)?;
-        self.present.put(text_of(alloc, name)?, value)?;
+        set_elements(alloc, &mut self.env, sets.as_slice())?;
+        let again = self
+            .notebook
+            .rerun(alloc, &names_of(alloc, sets.as_slice())?)?;
+        keep_values(&mut self.present, sets)?;
         drop_created(&mut self.present, self.notebook, again.items());
         self.pending = Pending::Results {
             cells: Cells::Again(again),

@@ -12,4 +12,4 @@ returns-then-pending-gt0-clause-delivers c =
     (omega arith, counted, refl)
 
 pub returns-clause-stands : goal.returns-clause-stands
-returns-clause-stands c = stands_now c.take.new.self c.in_ok-take.ensures.kept
+returns-clause-stands c = stands_now c.take.new.self c.in_ok-delivered.ensures.kept

@@ -33,7 +33,7 @@ returns-clause-new c =
     record {
       notebook = refl;
       budget_is = refl;
-      on = refl;
+      phase = refl;
       present = c.new.ensures;
       env = c.new-2.ensures;
       newest = c.loop.invariant ∙ ap (λ n. replicate n None) all;

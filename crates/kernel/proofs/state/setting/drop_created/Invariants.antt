@@ -4,7 +4,7 @@ use Rattle.std.specs.Prelude.{flat_map}
 use Rattle.graph_meaning.specs.Graph.{elements_of}
 use Rattle.py_tree.specs.View.{view_cells}
 use Rattle.kernel.proofs.DroppedNames.{apart_from}
-use Rattle.kernel.proofs.state.deliver.drop_created.Given as goal
+use Rattle.kernel.proofs.state.setting.drop_created.Given as goal
 
 abbrev pub invariant-loop-cell : goal.invariant-loop-cell
 invariant-loop-cell l =

@@ -6,7 +6,7 @@ use Rattle.graph_meaning.specs.Graph.{elements_of}
 use Rattle.py_tree.specs.View.{view_cells}
 use Rattle.py_value.specs.Maps.{where_name}
 use Rattle.kernel.proofs.DroppedNames.{apart_from, next_dropped, no_names}
-use Rattle.kernel.proofs.state.deliver.drop_created.Goals as goal
+use Rattle.kernel.proofs.state.setting.drop_created.Goals as goal
 
 pub loop-name-preserved : goal.loop-name-preserved
 loop-name-preserved c =
