@@ -1,4 +1,4 @@
-mod Computing
+pub mod Computing
 mod Ordered
 mod Repeating
 pub mod Shapes

@@ -1,14 +1,14 @@
 -- Commands that are carried out, step by step.
 use Rattle.std.proofs.Common.{◌≡◌, refl, sym, subst, inl, inr, ℕ, ◌+◌, ◌≤◌, List, [], append-nil, arith}
-use Rattle.std.specs.Prelude.{Option, Some, IfSome, codes}
+use Rattle.std.specs.Prelude.{Option, Some, IfSome, codes, flat_map}
 use Rattle.link_io.specs.Outside.{Rose, Took}
 use Rattle.link_io.proofs.Taken.{rose_since, took_both}
-use Rattle.visit_meaning.specs.Answer.{Before, Message, Part, parts_from, solo, work}
+use Rattle.visit_meaning.specs.Answer.{Part, solo}
 use Rattle.frame_meaning.specs.FrameText.{labelled}
 use Rattle.program_meaning.specs.Program as program
 use Rattle.command_meaning.specs.Commands.{Command, Play, command_of, notebook_of}
 use Rattle.program_meaning.specs.Program.{Comes, AreRead, FailsFirst, IsLoaded, Refusal, read_of, refusal_text, usual_budget}
-use Rattle.program_meaning.specs.Scripts.{FaultAt, fault_text}
+use Rattle.program_meaning.specs.Scripts.{Script, FaultAt, fault_text, script_parts, script_work}
 use Rattle.py_tree.specs.Trees.{Cell}
 use Rattle.nbserve.specs.Execution as done
 use Rattle.nbserve.specs.Execution.{IsDone, IsPlayed}
@@ -21,17 +21,17 @@ use Rattle.nbserve.specs.declared.command_fault.CommandFault.{CommandFault}
 use Rattle.nbserve.specs.declared.command_fault.CommandFault.TheVariants as stop
 
 -- a last text after the lines of all frames
-pub done_after : (nb : List Cell) (ms : List Message) (label last : List ℕ) (result : ℕ) (before between now : Option (List ℕ)) (a b d count count_after : ℕ)
-    → Took before between (labelled label (solo nb usual_budget ms)) → count_after ≡ count + work nb usual_budget ms → a ≤ b
-    → Ended 0 last result between now (Rose b d) → IsDone nb ms label last result before now (Rose a d) count count_after
-done_after nb ms label last result before between now a b d count count_after first steps le (wrote.whole e took) =
-    done.whole e (took_both before between now (labelled label (solo nb usual_budget ms)) last first took) steps
-done_after nb ms label last result before between now a b d count count_after first steps le (wrote.cut e why part) =
+pub done_after : (nb : List Cell) (stays : Script) (label last : List ℕ) (result : ℕ) (before between now : Option (List ℕ)) (a b d count count_after : ℕ)
+    → Took before between (labelled label (flat_map (solo nb usual_budget) stays)) → count_after ≡ count + script_work nb usual_budget stays → a ≤ b
+    → Ended 0 last result between now (Rose b d) → IsDone nb stays label last result before now (Rose a d) count count_after
+done_after nb stays label last result before between now a b d count count_after first steps le (wrote.whole e took) =
+    done.whole e (took_both before between now (labelled label (flat_map (solo nb usual_budget) stays)) last first took) steps
+done_after nb stays label last result before between now a b d count count_after first steps le (wrote.cut e why part) =
     done.cut e (rose_since a b d le why)
-    (cut.in_last part.0 part.1 part.2 part.3 steps (took_both before between now (labelled label (solo nb usual_budget ms)) part.0 first part.4))
-done_after nb ms label last result before between now a b d count count_after first steps le (wrote.wanting e none) =
-    let parts : List Part = parts_from nb usual_budget Before ms in
-    let text = labelled label (solo nb usual_budget ms) in
+    (cut.in_last part.0 part.1 part.2 part.3 steps (took_both before between now (labelled label (flat_map (solo nb usual_budget) stays)) part.0 first part.4))
+done_after nb stays label last result before between now a b d count count_after first steps le (wrote.wanting e none) =
+    let parts : List Part = script_parts nb usual_budget stays in
+    let text = labelled label (flat_map (solo nb usual_budget) stays) in
     done.prefix e (record {
       written = parts;
       rest = [];

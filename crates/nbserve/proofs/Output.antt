@@ -4,18 +4,16 @@ use Rattle.std.specs.Prelude.{Option, Some, None, IfSome}
 use Rattle.std.proofs.lemmas.Option.{same_Some}
 use Rattle.link_io.specs.Outside.{Took}
 use Rattle.nbserve.proofs.OneRefusal.{none_refused, one_notebook}
-use Rattle.visit_meaning.specs.Answer.{Before, Message, Open, cost_of_parts, frames_in, parts_from, work}
 use Rattle.program_meaning.specs.Program as program
 use Rattle.command_meaning.specs.Commands.{Command, Once, Play, command_of, notebook_of}
 use Rattle.program_meaning.specs.Program.{Comes, AreRead, IsAccepted, IsLoaded, IsRefused, Refusal, FailsFirst, read_of, once_text, usual_budget}
-use Rattle.program_meaning.specs.Scripts.{Script, IsScript, IsNoScript, FaultAt, messages_of, script_text}
+use Rattle.program_meaning.specs.Scripts.{Script, IsScript, IsNoScript, FaultAt, script_parts, script_text, script_work}
 use Rattle.py_tree.specs.Trees.{Cell}
 use Rattle.program_meaning.proofs.ScriptTexts as scripts_read
 use Rattle.nbserve.specs.Execution as done
-use Rattle.nbserve.specs.Execution.{Carried, IsDone}
+use Rattle.nbserve.specs.Execution.{Carried, IsDone, opening}
 use Rattle.script_run.specs.Cut.{IsCutOff}
 use Rattle.script_run.specs.Prefix.{WrotePrefix}
-use Rattle.frame_meaning.specs.FrameText.{labelled}
 use Rattle.nbserve.specs.CommandFault.{IsStopped, status_of, stop_line}
 use Rattle.nbserve.specs.Works as works
 use Rattle.nbserve.specs.Works.{Works, label_of, last_of}
@@ -77,47 +75,37 @@ not_refused holds words a b bytes all nb why h k told r ok first =
 
 -- ---- a command that was carried out
 
--- the notebook that was loaded, and the messages that were played, are those of the words
-opened_parts : (holds : List ℕ → Option (Option (List ℕ))) (words : List (List ℕ)) (f : List ℕ) (n nb : List Cell) (ms : List Message) → command_of words ≡ Some (Once f) → IsLoaded holds f n → Works holds words nb ms → parts_from n usual_budget Before (Open ∷ []) ≡ parts_from nb usual_budget Before ms
-opened_parts holds words f n nb ms a l (works.once file all asked told ok sent) =
-    let same = one_notebook (read_of all) n nb (loaded_is holds f file all n (same_once words f file a asked) told l).form ok.form in
-    ap (λ cells. parts_from cells usual_budget Before (Open ∷ [])) same ∙ ap (parts_from nb usual_budget Before) (sym sent)
-opened_parts holds words f n nb ms a l (works.play file script all text said asked told ok shown is sent) = absurd (once_or_play words f file script a asked)
+-- the notebook that was loaded, and what was played, are those of the words
+opened_parts : (holds : List ℕ → Option (Option (List ℕ))) (words : List (List ℕ)) (f : List ℕ) (n nb : List Cell) (stays : Script) → command_of words ≡ Some (Once f) → IsLoaded holds f n → Works holds words nb stays → (n ≡ nb) × (opening ≡ stays)
+opened_parts holds words f n nb stays a l (works.once file all asked told ok sent) =
+    (one_notebook (read_of all) n nb (loaded_is holds f file all n (same_once words f file a asked) told l).form ok.form, sym sent)
+opened_parts holds words f n nb stays a l (works.play file script all text asked told ok shown is) = absurd (once_or_play words f file script a asked)
 
-played_parts : (holds : List ℕ → Option (Option (List ℕ))) (words : List (List ℕ)) (f s bytes : List ℕ) (n : List Cell) (script : Script) (nb : List Cell) (ms : List Message) → command_of words ≡ Some (Play f s) → IsLoaded holds f n → AreRead holds s bytes → IsScript bytes script → Works holds words nb ms → parts_from n usual_budget Before (messages_of script) ≡ parts_from nb usual_budget Before ms
-played_parts holds words f s bytes n played nb ms a l r i (works.once file all asked told ok sent) = absurd (once_or_play words file f s asked a)
-played_parts holds words f s bytes n played nb ms a l r i (works.play file script all text said asked told ok shown is sent) =
-    let names = same_play words f file s script a asked in
-    let same = one_notebook (read_of all) n nb (loaded_is holds f file all n names.0 told l).form ok.form in
-    let one = scripts_read.one (read_of text) played said (subst (λ b. IsScript b played) (read_is holds s script bytes text names.1 shown r) i) is in
-    ap (λ cells. parts_from cells usual_budget Before (messages_of played)) same
-    ∙ ap (λ script. parts_from nb usual_budget Before (messages_of script)) one ∙ ap (parts_from nb usual_budget Before) (sym sent)
+played_parts : (holds : List ℕ → Option (Option (List ℕ))) (words : List (List ℕ)) (f s bytes : List ℕ) (n : List Cell) (played : Script) (nb : List Cell) (stays : Script) → command_of words ≡ Some (Play f s) → IsLoaded holds f n → AreRead holds s bytes → IsScript bytes played → Works holds words nb stays → (n ≡ nb) × (played ≡ stays)
+played_parts holds words f s bytes n played nb stays a l r i (works.once file all asked told ok sent) = absurd (once_or_play words file f s asked a)
+played_parts holds words f s bytes n played nb stays a l r i (works.play file script all text asked told ok shown is) =
+    let names = same_play words f file s script a asked in (
+      one_notebook (read_of all) n nb (loaded_is holds f file all n names.0 told l).form ok.form,
+      scripts_read.one (read_of text) played stays (subst (λ b. IsScript b played) (read_is holds s script bytes text names.1 shown r) i) is,
+    )
 
 module _ (holds : List ℕ → Option (Option (List ℕ))) (words : List (List ℕ)) (status : ℕ) (before now : Option (List ℕ)) (unwritten : Type 0) (count count_after : ℕ) where
-  -- what was done for a command whose notebook and messages are told
-  abbrev IsDoneFor : Command → List Cell → List Message → Type 0
-  IsDoneFor asked nb ms = IsDone nb ms (label_of asked) (last_of asked) status before now unwritten count count_after
+  -- what was done for a command whose notebook and visitors are told
+  abbrev IsDoneFor : Command → List Cell → Script → Type 0
+  IsDoneFor asked nb stays = IsDone nb stays (label_of asked) (last_of asked) status before now unwritten count count_after
 
-  -- the messages of a command lead to the same parts
-  same_done : (asked : Command) (n nb : List Cell) (sent ms : List Message) → parts_from n usual_budget Before sent ≡ parts_from nb usual_budget Before ms
-      → IsDone n sent (label_of asked) (last_of asked) status before now unwritten count count_after → IsDoneFor asked nb ms
-  same_done asked n nb sent ms same (done.whole e took steps) =
-      done.whole e (subst (λ parts. Took before now (labelled (label_of asked) (frames_in parts) ++ last_of asked)) same took)
-      (steps ∙ ap (λ parts. count + cost_of_parts parts) same)
-  same_done asked n nb sent ms same (done.cut e why cut) =
-      done.cut e why (subst (λ parts. IsCutOff (label_of asked) (last_of asked) parts before now count count_after) same cut)
-  same_done asked n nb sent ms same (done.prefix e prefix) =
-      done.prefix e (subst (λ parts. WrotePrefix (label_of asked) parts before now count count_after) same prefix)
+  same_done : (asked : Command) (n nb : List Cell) (sent stays : Script) → (n ≡ nb) × (sent ≡ stays) → IsDoneFor asked n sent → IsDoneFor asked nb stays
+  same_done asked n nb sent stays same is = subst (IsDoneFor asked nb) same.1 (subst (λ cells. IsDoneFor asked cells sent) same.0 is)
 
   -- a command that was carried out is that of the words
-  carried_done : Carried holds words status before now unwritten count count_after → (asked : Command) (nb : List Cell) (ms : List Message)
-      → command_of words ≡ Some asked → Works holds words nb ms → IsDoneFor asked nb ms
-  carried_done (done.opened f n a l is) asked nb ms h can =
-      subst (λ command. IsDoneFor command nb ms) (same_Some (Once f) asked (sym a ∙ h))
-      (same_done (Once f) n nb (Open ∷ []) ms (opened_parts holds words f n nb ms a l can) is)
-  carried_done (done.played f s n a l p) asked nb ms h can =
-      subst (λ command. IsDoneFor command nb ms) (same_Some (Play f s) asked (sym a ∙ h))
-      (same_done (Play f s) n nb (messages_of p.said) ms (played_parts holds words f s p.bytes n p.said nb ms a l p.read p.is can) p.done)
+  carried_done : Carried holds words status before now unwritten count count_after → (asked : Command) (nb : List Cell) (stays : Script)
+      → command_of words ≡ Some asked → Works holds words nb stays → IsDoneFor asked nb stays
+  carried_done (done.opened f n a l is) asked nb stays h can =
+      subst (λ command. IsDoneFor command nb stays) (same_Some (Once f) asked (sym a ∙ h))
+      (same_done (Once f) n nb opening stays (opened_parts holds words f n nb stays a l can) is)
+  carried_done (done.played f s n a l p) asked nb stays h can =
+      subst (λ command. IsDoneFor command nb stays) (same_Some (Play f s) asked (sym a ∙ h))
+      (same_done (Play f s) n nb p.said stays (played_parts holds words f s p.bytes n p.said nb stays a l p.read p.is can) p.done)
 
 -- ---- what a run comes to
 
@@ -149,21 +137,21 @@ module _ (holds : List ℕ → Option (Option (List ℕ))) (unread : Type 0) (wo
   comes_usage (program.no_script file script bytes nb line a l r stops e t) h = absurd (none_asked words (Play file script) h a)
 
   -- a command that can be carried out
-  comes_works : Comes holds unread words status text → (nb : List Cell) (ms : List Message) → Works holds words nb ms → (status ≡ 0) ⊎ (status ≡ 3)
-  comes_works (program.opened f n a l e t) nb ms can = inl e
-  comes_works (program.played f s bytes n said a l r is e t) nb ms can = inl e
-  comes_works (program.refused command bytes why a r first e t) nb ms (works.once file all asked told ok sent) =
+  comes_works : Comes holds unread words status text → (nb : List Cell) (stays : Script) → Works holds words nb stays → (status ≡ 0) ⊎ (status ≡ 3)
+  comes_works (program.opened f n a l e t) nb stays can = inl e
+  comes_works (program.played f s bytes n said a l r is e t) nb stays can = inl e
+  comes_works (program.refused command bytes why a r first e t) nb stays (works.once file all asked told ok sent) =
       absurd (not_refused holds words command (Once file) bytes all nb why a asked told r ok first)
-  comes_works (program.refused command bytes why a r first e t) nb ms (works.play file script all shown said asked told ok there is sent) =
+  comes_works (program.refused command bytes why a r first e t) nb stays (works.play file script all shown asked told ok there is) =
       absurd (not_refused holds words command (Play file script) bytes all nb why a asked told r ok first)
-  comes_works (program.usage a e t) nb ms (works.once file all asked told ok sent) = absurd (none_asked words (Once file) a asked)
-  comes_works (program.usage a e t) nb ms (works.play file script all shown said asked told ok there is sent) =
+  comes_works (program.usage a e t) nb stays (works.once file all asked told ok sent) = absurd (none_asked words (Once file) a asked)
+  comes_works (program.usage a e t) nb stays (works.play file script all shown asked told ok there is) =
       absurd (none_asked words (Play file script) a asked)
-  comes_works (program.unread command a f e t) nb ms can = inr e
-  comes_works (program.no_script f s bytes n line a l r stops e t) nb ms (works.once file all asked told ok sent) = absurd (once_or_play words file f s asked a)
-  comes_works (program.no_script f s bytes n line a l r stops e t) nb ms (works.play file script all shown said asked told ok there is sent) =
+  comes_works (program.unread command a f e t) nb stays can = inr e
+  comes_works (program.no_script f s bytes n line a l r stops e t) nb stays (works.once file all asked told ok sent) = absurd (once_or_play words file f s asked a)
+  comes_works (program.no_script f s bytes n line a l r stops e t) nb stays (works.play file script all shown asked told ok there is) =
       let same = read_is holds s script bytes shown (same_play words f file s script a asked).1 there r in
-      absurd (scripts_read.scripts_go_on (read_of shown) said is line (subst (λ bs. FaultAt bs line) same stops))
+      absurd (scripts_read.scripts_go_on (read_of shown) stays is line (subst (λ bs. FaultAt bs line) same stops))
 
   -- refused bytes, where the files tell them
   comes_refused : Comes holds unread words status text → (asked : Command) (all : List ℕ) → command_of words ≡ Some asked → holds (notebook_of asked) ≡ Some (Some all) → IsRefused (read_of all) → (status ≡ 1) ⊎ (status ≡ 3)
@@ -187,8 +175,8 @@ module _ (holds : List ℕ → Option (Option (List ℕ))) (unread : Type 0) (wo
 -- ---- what was written tells of the status
 
 -- a command that was carried out comes to 0, or a write failed, or memory was wanting
-done_to : {nb : List Cell} {ms : List Message} {label last : List ℕ} {status : ℕ} {before now : Option (List ℕ)} {unwritten : Type 0} {count count_after : ℕ}
-    → IsDone nb ms label last status before now unwritten count count_after → (status ≡ 0) ⊎ ((status ≡ 4) × unwritten) ⊎ (status ≡ 5)
+done_to : {nb : List Cell} {stays : Script} {label last : List ℕ} {status : ℕ} {before now : Option (List ℕ)} {unwritten : Type 0} {count count_after : ℕ}
+    → IsDone nb stays label last status before now unwritten count count_after → (status ≡ 0) ⊎ ((status ≡ 4) × unwritten) ⊎ (status ≡ 5)
 done_to (done.whole e took steps) = inl e
 done_to (done.cut e why cut) = inr (inl (e, why))
 done_to (done.prefix e prefix) = inr (inr e)
@@ -242,8 +230,8 @@ module _ (holds : List ℕ → Option (Option (List ℕ))) (unread unwritten : T
       ⊎_elim (λ is. inl is) (λ fault. ⊎_elim (λ write. inr (inl write.0)) (λ memory. inr (inr memory)) fault)
       (come_to (λ come. come ≡ 2) (λ come text comes. comes_usage holds unread words come text comes h) w)
 
-  runs_accepted : Runs → (nb : List Cell) (ms : List Message) → Works holds words nb ms → (status ≡ 0) ⊎ (status ≡ 3) ⊎ (status ≡ 4) ⊎ (status ≡ 5)
-  runs_accepted w nb ms can = come_to_one 0 (λ come text comes. comes_works holds unread words come text comes nb ms can) w
+  runs_accepted : Runs → (nb : List Cell) (stays : Script) → Works holds words nb stays → (status ≡ 0) ⊎ (status ≡ 3) ⊎ (status ≡ 4) ⊎ (status ≡ 5)
+  runs_accepted w nb stays can = come_to_one 0 (λ come text comes. comes_works holds unread words come text comes nb stays can) w
 
   runs_refused : Runs → (asked : Command) (all : List ℕ) → command_of words ≡ Some asked → holds (notebook_of asked) ≡ Some (Some all) → IsRefused (read_of all) → (status ≡ 1) ⊎ (status ≡ 3) ⊎ (status ≡ 4) ⊎ (status ≡ 5)
   runs_refused w command all asked told never = come_to_one 1 (λ come text comes. comes_refused holds unread words come text comes command all asked told never) w
@@ -253,66 +241,66 @@ module _ (holds : List ℕ → Option (Option (List ℕ))) (unread unwritten : T
       come_to_one 6 (λ come text comes. comes_no_script holds unread words come text comes file script all shown nb asked told ok there never) w
 
   -- where no fault came, a command that can be carried out is, or memory is wanting
-  runs_complete : Runs → (nb : List Cell) (ms : List Message) → Works holds words nb ms → (unread → ⊥) → (unwritten → ⊥) → (status ≡ 0) ⊎ (status ≡ 5)
-  runs_complete w nb ms can read write =
+  runs_complete : Runs → (nb : List Cell) (stays : Script) → Works holds words nb stays → (unread → ⊥) → (unwritten → ⊥) → (status ≡ 0) ⊎ (status ≡ 5)
+  runs_complete w nb stays can read write =
       ⊎_elim (λ done. inl done) (λ fault. ⊎_elim (λ three. absurd (read (runs_read w three))) (λ other. ⊎_elim (λ four. absurd (write (runs_write w four))) (λ memory. inr memory) other) fault)
-      (runs_accepted w nb ms can)
+      (runs_accepted w nb stays can)
 
   -- ---- what was counted, and where the text ends
 
   -- the command that works is one of the words
-  asked_for : (nb : List Cell) (ms : List Message) → Works holds words nb ms → (asked : Command) × (command_of words ≡ Some asked)
-  asked_for nb ms (works.once file all asked told ok sent) = (Once file, asked)
-  asked_for nb ms (works.play file script all text said asked told ok shown is sent) = (Play file script, asked)
+  asked_for : (nb : List Cell) (stays : Script) → Works holds words nb stays → (asked : Command) × (command_of words ≡ Some asked)
+  asked_for nb stays (works.once file all asked told ok sent) = (Once file, asked)
+  asked_for nb stays (works.play file script all text asked told ok shown is) = (Play file script, asked)
 
-  done_steps : (asked : Command) (nb : List Cell) (ms : List Message) → IsDoneFor holds words status before now unwritten count count_after asked nb ms → status ≡ 0 → count_after ≡ count + work nb usual_budget ms
-  done_steps asked nb ms (done.whole e took steps) zero = steps
-  done_steps asked nb ms (done.cut e why cut) zero = absurd (omega (arith, e, zero))
-  done_steps asked nb ms (done.prefix e prefix) zero = absurd (omega (arith, e, zero))
+  done_steps : (asked : Command) (nb : List Cell) (stays : Script) → IsDoneFor holds words status before now unwritten count count_after asked nb stays → status ≡ 0 → count_after ≡ count + script_work nb usual_budget stays
+  done_steps asked nb stays (done.whole e took steps) zero = steps
+  done_steps asked nb stays (done.cut e why cut) zero = absurd (omega (arith, e, zero))
+  done_steps asked nb stays (done.prefix e prefix) zero = absurd (omega (arith, e, zero))
 
-  done_cut : (asked : Command) (nb : List Cell) (ms : List Message) → IsDoneFor holds words status before now unwritten count count_after asked nb ms → status ≡ 4
-      → IsCutOff (label_of asked) (last_of asked) (parts_from nb usual_budget Before ms) before now count count_after
-  done_cut asked nb ms (done.whole e took steps) four = absurd (omega (arith, e, four))
-  done_cut asked nb ms (done.cut e why cut) four = cut
-  done_cut asked nb ms (done.prefix e prefix) four = absurd (omega (arith, e, four))
+  done_cut : (asked : Command) (nb : List Cell) (stays : Script) → IsDoneFor holds words status before now unwritten count count_after asked nb stays → status ≡ 4
+      → IsCutOff (label_of asked) (last_of asked) (script_parts nb usual_budget stays) before now count count_after
+  done_cut asked nb stays (done.whole e took steps) four = absurd (omega (arith, e, four))
+  done_cut asked nb stays (done.cut e why cut) four = cut
+  done_cut asked nb stays (done.prefix e prefix) four = absurd (omega (arith, e, four))
 
-  done_prefix : (asked : Command) (nb : List Cell) (ms : List Message) → IsDoneFor holds words status before now unwritten count count_after asked nb ms → status ≡ 5
-      → WrotePrefix (label_of asked) (parts_from nb usual_budget Before ms) before now count count_after
-  done_prefix asked nb ms (done.whole e took steps) five = absurd (omega (arith, e, five))
-  done_prefix asked nb ms (done.cut e why cut) five = absurd (omega (arith, e, five))
-  done_prefix asked nb ms (done.prefix e prefix) five = prefix
+  done_prefix : (asked : Command) (nb : List Cell) (stays : Script) → IsDoneFor holds words status before now unwritten count count_after asked nb stays → status ≡ 5
+      → WrotePrefix (label_of asked) (script_parts nb usual_budget stays) before now count count_after
+  done_prefix asked nb stays (done.whole e took steps) five = absurd (omega (arith, e, five))
+  done_prefix asked nb stays (done.cut e why cut) five = absurd (omega (arith, e, five))
+  done_prefix asked nb stays (done.prefix e prefix) five = prefix
 
   -- where nothing was written and nothing counted, that is a prefix
-  none_prefix : (asked : Command) (nb : List Cell) (ms : List Message) → Took before now [] → count_after ≡ count → WrotePrefix (label_of asked) (parts_from nb usual_budget Before ms) before now count count_after
-  none_prefix asked nb ms none still =
-      record { written = []; rest = parts_from nb usual_budget Before ms; are = refl; least = omega (arith, still); most = omega (arith, still); took = none }
+  none_prefix : (asked : Command) (nb : List Cell) (stays : Script) → Took before now [] → count_after ≡ count → WrotePrefix (label_of asked) (script_parts nb usual_budget stays) before now count count_after
+  none_prefix asked nb stays none still =
+      record { written = []; rest = script_parts nb usual_budget stays; are = refl; least = omega (arith, still); most = omega (arith, still); took = none }
 
-  runs_steps : Runs → status ≡ 0 → (nb : List Cell) (ms : List Message) → Works holds words nb ms → count_after ≡ count + work nb usual_budget ms
-  runs_steps (output.carried c) zero nb ms can =
-      let asked = asked_for nb ms can in
-      done_steps asked.0 nb ms (carried_done holds words status before now unwritten count count_after c asked.0 nb ms asked.1 can) zero
-  runs_steps (output.stopped come text other comes (output.whole e took) still) zero nb ms can = absurd (other (sym e ∙ zero))
-  runs_steps (output.stopped come text other comes (output.cut e why part) still) zero nb ms can = absurd (omega (arith, e, zero))
-  runs_steps (output.stopped come text other comes (output.wanting e none) still) zero nb ms can = absurd (omega (arith, e, zero))
-  runs_steps (output.wanting e none still) zero nb ms can = absurd (omega (arith, e, zero))
+  runs_steps : Runs → status ≡ 0 → (nb : List Cell) (stays : Script) → Works holds words nb stays → count_after ≡ count + script_work nb usual_budget stays
+  runs_steps (output.carried c) zero nb stays can =
+      let asked = asked_for nb stays can in
+      done_steps asked.0 nb stays (carried_done holds words status before now unwritten count count_after c asked.0 nb stays asked.1 can) zero
+  runs_steps (output.stopped come text other comes (output.whole e took) still) zero nb stays can = absurd (other (sym e ∙ zero))
+  runs_steps (output.stopped come text other comes (output.cut e why part) still) zero nb stays can = absurd (omega (arith, e, zero))
+  runs_steps (output.stopped come text other comes (output.wanting e none) still) zero nb stays can = absurd (omega (arith, e, zero))
+  runs_steps (output.wanting e none still) zero nb stays can = absurd (omega (arith, e, zero))
 
-  runs_cut : Runs → status ≡ 4 → (asked : Command) (nb : List Cell) (ms : List Message) → command_of words ≡ Some asked → Works holds words nb ms → (unread → ⊥)
-      → IsCutOff (label_of asked) (last_of asked) (parts_from nb usual_budget Before ms) before now count count_after
-  runs_cut (output.carried c) four asked nb ms h can read =
-      done_cut asked nb ms (carried_done holds words status before now unwritten count count_after c asked nb ms h can) four
-  runs_cut (output.stopped come text other comes ended still) four asked nb ms h can read =
-      absurd (⊎_elim other (λ three. read (comes_read holds unread words come text comes three)) (comes_works holds unread words come text comes nb ms can))
-  runs_cut (output.wanting e none still) four asked nb ms h can read = absurd (omega (arith, e, four))
+  runs_cut : Runs → status ≡ 4 → (asked : Command) (nb : List Cell) (stays : Script) → command_of words ≡ Some asked → Works holds words nb stays → (unread → ⊥)
+      → IsCutOff (label_of asked) (last_of asked) (script_parts nb usual_budget stays) before now count count_after
+  runs_cut (output.carried c) four asked nb stays h can read =
+      done_cut asked nb stays (carried_done holds words status before now unwritten count count_after c asked nb stays h can) four
+  runs_cut (output.stopped come text other comes ended still) four asked nb stays h can read =
+      absurd (⊎_elim other (λ three. read (comes_read holds unread words come text comes three)) (comes_works holds unread words come text comes nb stays can))
+  runs_cut (output.wanting e none still) four asked nb stays h can read = absurd (omega (arith, e, four))
 
-  runs_prefix : Runs → status ≡ 5 → (asked : Command) (nb : List Cell) (ms : List Message) → command_of words ≡ Some asked → Works holds words nb ms
-      → WrotePrefix (label_of asked) (parts_from nb usual_budget Before ms) before now count count_after
-  runs_prefix (output.carried c) five asked nb ms h can =
-      done_prefix asked nb ms (carried_done holds words status before now unwritten count count_after c asked nb ms h can) five
-  runs_prefix (output.stopped come text other comes (output.whole e took) still) five asked nb ms h can =
-      absurd (⊎_elim other (λ three. omega (arith, e, five, three)) (comes_works holds unread words come text comes nb ms can))
-  runs_prefix (output.stopped come text other comes (output.cut e why part) still) five asked nb ms h can = absurd (omega (arith, e, five))
-  runs_prefix (output.stopped come text other comes (output.wanting e none) still) five asked nb ms h can = none_prefix asked nb ms none still
-  runs_prefix (output.wanting e none still) five asked nb ms h can = none_prefix asked nb ms none still
+  runs_prefix : Runs → status ≡ 5 → (asked : Command) (nb : List Cell) (stays : Script) → command_of words ≡ Some asked → Works holds words nb stays
+      → WrotePrefix (label_of asked) (script_parts nb usual_budget stays) before now count count_after
+  runs_prefix (output.carried c) five asked nb stays h can =
+      done_prefix asked nb stays (carried_done holds words status before now unwritten count count_after c asked nb stays h can) five
+  runs_prefix (output.stopped come text other comes (output.whole e took) still) five asked nb stays h can =
+      absurd (⊎_elim other (λ three. omega (arith, e, five, three)) (comes_works holds unread words come text comes nb stays can))
+  runs_prefix (output.stopped come text other comes (output.cut e why part) still) five asked nb stays h can = absurd (omega (arith, e, five))
+  runs_prefix (output.stopped come text other comes (output.wanting e none) still) five asked nb stays h can = none_prefix asked nb stays none still
+  runs_prefix (output.wanting e none still) five asked nb stays h can = none_prefix asked nb stays none still
 
   -- where a test isn't passed, no step was counted
   runs_unrun : Runs → (status ≡ 1) ⊎ (status ≡ 2) ⊎ (status ≡ 3) ⊎ (status ≡ 6) → count_after ≡ count

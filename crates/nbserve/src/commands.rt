@@ -5,9 +5,9 @@ ghost use Rattle.nbserve.specs.Execution.{Carried, IsDone, IsPlayed};
 ghost use Rattle.nbserve.specs.CommandFault.{IsStopped, IsUnloaded, IsUnplayed, IsUnread};
 ghost use Rattle.nbserve.specs.Output.{RunsTo};
 ghost use Rattle.nbserve.specs.Shows.{Shows};
-ghost use Rattle.visit_meaning.specs.Answer.{Message};
-ghost use Rattle.visit_meaning.specs.Messages.{AreMessages};
 ghost use Rattle.program_meaning.specs.Program.{AreRead, IsLoaded};
+ghost use Rattle.program_meaning.specs.Scripts.{Script};
+ghost use Rattle.script_run.specs.Script.{AreSent};
 ghost use Rattle.command_meaning.specs.Commands.{command_of};
 ghost use Rattle.visit_meaning.specs.Runnable.{Runnable};
 ghost use Rattle.py_tree.specs.View.{view_cells};
@@ -18,7 +18,6 @@ use crate::command_fault::{
 use crate::loader::load;
 use cell_graph::Notebook;
 use cli_words::{Command, read_command};
-use kernel::OPEN_MESSAGE;
 use link_io::{Files, ReadFault, Sink, read_file};
 use py_eval::Steps;
 use py_tree::BYTE_LIMIT;
@@ -28,6 +27,9 @@ use std::sync::ledger::Ledger;
 
 /// The usual budget of a cell, in steps.
 pub const USUAL_BUDGET: u64 = 200_000;
+
+// What a visitor sends who opens a notebook.
+const OPEN_MESSAGE: &[u8] = b"{\"open\":{}}";
 
 // What stands before each frame of a script's visitor.
 const VISITOR_LABEL: &[u8] = b"1 ";
@@ -67,24 +69,24 @@ pub fn notebook_in<F: Files>(
     load(alloc, bytes.as_slice())
 }
 
-// Plays messages, and then writes a last text.
+// Plays what visitors send, and then writes a last text.
 fn perform<O: Sink, L: Ledger>(
     alloc: Global,
     notebook: &Notebook,
     label: &[u8],
-    messages: &[&[u8]],
+    sent: &[&[u8]],
     last: &[u8],
     out: &mut O,
     steps: &mut Steps<L>,
 ) -> u8
     requires { Runnable (view_cells notebook.now) }
-    ensures done { (ms : List Message) → AreMessages (map (λ m. m.now) messages.now) ms
-        → IsDone (view_cells notebook.now) ms label.now last.now result
+    ensures done { (stays : Script) → AreSent (map (λ text. text.now) sent.now) stays
+        → IsDone (view_cells notebook.now) stays label.now last.now result
         (O.taken out.old) (O.taken out.new)
         (Rose (O.faults out.old) (O.faults out.new)) steps.old steps.new }
     ensures writes_later { O.faults out.old ≤ O.faults out.new }
 {
-    match play(alloc, notebook, USUAL_BUDGET, label, messages, out, steps) {
+    match play(alloc, notebook, USUAL_BUDGET, label, sent, out, steps) {
         Ok(()) => end_with(out, last, DONE),
         Err(PlayFault::WriteFault) => WRITE_FAULT,
         Err(PlayFault::Memory) => WANT_OF_MEMORY,
@@ -115,12 +117,12 @@ fn perform_script<F: Files, O: Sink, L: Ledger>(
     ensures writes_later { O.faults out.old ≤ O.faults out.new }
 {
     let bytes = bytes_in(alloc, files, file)?;
-    let messages = read_script(alloc, bytes.as_slice())?;
+    let sent = read_script(alloc, bytes.as_slice())?;
     Ok(perform(
         alloc,
         notebook,
         VISITOR_LABEL,
-        messages.as_slice(),
+        sent.as_slice(),
         LAST_LINE,
         out,
         steps,
@@ -159,7 +161,7 @@ fn carry_out<F: Files, O: Sink, L: Ledger>(
             alloc,
             &notebook,
             b"",
-            &[OPEN_MESSAGE.as_bytes()],
+            &[OPEN_MESSAGE],
             b"",
             out,
             steps,

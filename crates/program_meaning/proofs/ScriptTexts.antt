@@ -1,25 +1,18 @@
 -- Bytes are one script, or stop at one line.
-use Rattle.std.proofs.Common.{◌≡◌, ◌⊎◌, inl, inr, ◌∙◌, refl, sym, ap, subst, ℕ, zero, suc, ◌+◌, ◌<◌, ◌≤◌, ◌^◌, ◌%◌, Bool, true, not, eqb, IsTrue, List, [], ◌∷◌, ◌++◌, length, length-append, append_assoc, append-nil, arith, ℤ, pos, negsuc}
-use Rattle.std.specs.Prelude.{codes, decimal}
-use Rattle.std.specs.Fmt.{signed_decimal}
-use Rattle.std.specs.Int.Signed.{mag}
+use Rattle.std.proofs.Common.{◌≡◌, ◌⊎◌, inl, inr, ◌∙◌, refl, sym, ap, subst, ℕ, zero, suc, ◌<◌, ◌≤◌, Bool, false, not, eqb, IsTrue, List, [], ◌∷◌, ◌++◌, length, length-append, append_assoc, append-nil, arith, Option, Some, None}
+use Rattle.std.specs.List.{AllZip}
+use Rattle.std.specs.Prelude.{codes, option_and_then}
 use Rattle.std.proofs.lemmas.Bool.{and_parts, and_from}
-use Rattle.std.proofs.lemmas.Bool.Decides.{nat_tests}
-use Rattle.std.proofs.lemmas.Fmt.{decimal_by_steps}
 use Rattle.std.proofs.lemmas.List.Folds.{list_all-append}
-use Rattle.visit_meaning.specs.Answer.{Message, Open, Set, Other}
-use Rattle.visit_meaning.specs.Messages.{IsTextOf, IsMessage}
-use Rattle.program_meaning.specs.Scripts.{Script, Nobody, Visitor, IsSend, AreSends, AreLinesOf, IsScript, FirstLine, FaultBehind, FaultAt}
-use Rattle.py_tree.specs.Names.{is_name_byte}
+use Rattle.messages.specs.declared.message.Message.{Message}
+use Rattle.message_meaning.proofs.Shapes as messages
+use Rattle.message_meaning.specs.Messages.{IsReceived}
+use Rattle.program_meaning.specs.Scripts.{Script, Said, Joins, Sends, IsLine, AreLinesOf, IsScript, FirstLine, FaultBehind, FaultAt, said_by}
+use Rattle.program_meaning.proofs.Turns.{there_after, there_append, can_be_said, said_from, same_stays}
 use Rattle.py_tree.specs.TextLines.{is_unbroken, text_of}
 use Rattle.py_tree.proofs.Breaks.{are_unbroken, unbroken_head, cut_once, text-append, lines_once, agree}
-use Rattle.visit_meaning.proofs.MessageTexts.{name_passes, small_number}
-use Rattle.visit_meaning.proofs.MessageTexts as messages
 
 -- ---- lines of a script hold no line end
-
-abbrev is_whole : ℕ → Bool
-is_whole b = not (eqb b 10)
 
 abbrev IsUnbroken : List ℕ → Type 0
 IsUnbroken bs = IsTrue (is_unbroken bs)
@@ -27,51 +20,19 @@ IsUnbroken bs = IsTrue (is_unbroken bs)
 abbrev AreUnbroken : List (List ℕ) → Type 0
 AreUnbroken lines = IsTrue (are_unbroken lines)
 
-joined : (a b : List ℕ) → IsUnbroken a → IsUnbroken b → IsUnbroken (a ++ b)
-joined a b p q = rw (list_all-append is_whole a b) (and_from _ _ p q)
+line_unbroken : (line : List ℕ) (x : Said) → IsLine line x → IsUnbroken line
+line_unbroken line Joins h = subst IsUnbroken (sym h) refl
+line_unbroken line (Sends m) h =
+    let whole : IsUnbroken (codes "send 1 " ++ h.text) = rw (list_all-append (λ b. not (eqb b 10)) (codes "send 1 ") h.text) (and_from _ _ refl h.unbroken) in
+    subst IsUnbroken (sym h.spelled) whole
 
-digit : (n : ℕ) → is_whole (48 + n) ≡ true
-digit n = grind (arith, nat_tests)
-
-last_digit : (n : ℕ) → IsUnbroken ((48 + n) ∷ [])
-last_digit n = and_from _ _ (digit n) refl
-
-digits_unbroken : (n : ℕ) → n < 2 ^ 64 → IsUnbroken (decimal n)
-digits_unbroken n small =
-    decimal_by_steps (λ n ds. IsUnbroken ds) (λ n h. last_digit n) (λ n ds h p. joined ds ((48 + n % 10) ∷ []) p (last_digit (n % 10))) n small
-
-signed_unbroken : (n : ℤ) → mag n < 2 ^ 63 → IsUnbroken (signed_decimal n)
-signed_unbroken (pos n) small = digits_unbroken n (omega arith)
-signed_unbroken (negsuc n) small = and_from _ _ refl (digits_unbroken (suc n) (omega arith))
-
-in_name : (b : ℕ) → is_name_byte b ≡ true → is_whole b ≡ true
-in_name b h = grind (arith, nat_tests)
-
-text_unbroken : (text : List ℕ) (m : Message) → IsTextOf text m → IsUnbroken text
-text_unbroken text Open h = subst IsUnbroken (sym h) refl
-text_unbroken text (Set sets) (x, n, named, small, is, text_is) =
-    let name = name_passes is_whole in_name x named in
-    let number = signed_unbroken n (small_number n small) in
-    let front = joined (codes "{\"set\":{\"") x refl name in
-    let mark = joined (codes "{\"set\":{\"" ++ x) (codes "\":") front refl in
-    let whole = joined (codes "{\"set\":{\"" ++ x ++ codes "\":") (signed_decimal n) mark number in
-    subst IsUnbroken (sym text_is) (joined (codes "{\"set\":{\"" ++ x ++ codes "\":" ++ signed_decimal n) (codes "}}") whole refl)
-text_unbroken text Other h = absurd h
-
-send_unbroken : (line : List ℕ) (m : Message) → IsSend line m → IsUnbroken line
-send_unbroken line m h = subst IsUnbroken (sym h.spelled) (joined (codes "send 1 ") h.text refl (text_unbroken h.text h.said h.form))
-
-sends_unbroken : (lines : List (List ℕ)) (ms : List Message) → AreSends lines ms → AreUnbroken lines
-sends_unbroken [] ms h = refl
-sends_unbroken (line ∷ lines) [] h = absurd h
-sends_unbroken (line ∷ lines) (m ∷ ms) h = and_from _ _ (send_unbroken line m h.0) (sends_unbroken lines ms h.1)
+all_unbroken : (lines : List (List ℕ)) (said : List Said) → AllZip IsLine lines said → AreUnbroken lines
+all_unbroken [] said h = refl
+all_unbroken (line ∷ lines) [] h = absurd h
+all_unbroken (line ∷ lines) (x ∷ said) h = and_from _ _ (line_unbroken line x h.0) (all_unbroken lines said h.1)
 
 lines_unbroken : (lines : List (List ℕ)) (s : Script) → AreLinesOf lines s → AreUnbroken lines
-lines_unbroken [] s h = refl
-lines_unbroken (line ∷ lines) Nobody h = absurd h
-lines_unbroken (line ∷ lines) (Visitor ms) h = and_from _ _ (subst IsUnbroken (sym h.0) refl) (sends_unbroken lines ms h.1)
-
--- ---- lines of one text
+lines_unbroken lines s h = all_unbroken lines (said_by s) h.say
 
 -- what holds a line end is broken
 is_broken : (a x y : List ℕ) → IsUnbroken a → a ≡ x ++ 10 ∷ y → ⊥
@@ -79,62 +40,140 @@ is_broken a x y p e =
     let q = rw list_all-append at (rw e at p) in
     unbroken_head 10 y (and_parts _ _ q).1 refl
 
--- ---- a script's last line, and its first lines
+-- ---- a script's first lines, and the line behind them
 
-pub last_send : (lines : List (List ℕ)) (ms : List Message) (line : List ℕ) → AreSends (lines ++ line ∷ []) ms → (m : Message) × IsSend line m
-last_send [] [] line h = absurd h
-last_send [] (m ∷ ms) line h = (m, h.0)
-last_send (l ∷ ls) [] line h = absurd h
-last_send (l ∷ ls) (m ∷ ms) line h = last_send ls ms line h.1
+-- what lines say, and further ones
+record IsSaid (xs ys : List (List ℕ)) (said : List Said) : Type 0 where
+  before : List Said
+  more : List Said
+  are : said ≡ before ++ more
+  first : AllZip IsLine xs before
+  last : AllZip IsLine ys more
+
+said_parts : (xs ys : List (List ℕ)) (said : List Said) → AllZip IsLine (xs ++ ys) said → IsSaid xs ys said
+said_parts [] ys said h = record { before = []; more = said; are = refl; first = tt; last = h }
+said_parts (x ∷ xs) ys [] h = absurd h
+said_parts (x ∷ xs) ys (s ∷ said) h =
+    let rest = said_parts xs ys said h.1 in
+    record {
+      before = s ∷ rest.before;
+      more = rest.more;
+      are = ap (λ (l : List Said). s ∷ l) rest.are;
+      first = (h.0, rest.first);
+      last = rest.last;
+    }
+
+-- where a whole can be said, its first part can be
+first_can : (o : Option Bool) (next : Bool → Option Bool) (there : Bool) → option_and_then next o ≡ Some there
+    → (now : Bool) × (o ≡ Some now) × (next now ≡ Some there)
+first_can None next there h = absurd (cc)
+first_can (Some now) next there h = (now, refl, h)
+
+-- where a visitor is after the first lines of a script
+record IsPassed (xs ys : List (List ℕ)) : Type 0 where
+  before : List Said
+  more : List Said
+  now : Bool
+  there : Bool
+  first : AllZip IsLine xs before
+  last : AllZip IsLine ys more
+  at_first : there_after false before ≡ Some now
+  at_last : there_after now more ≡ Some there
+
+passed : (xs ys : List (List ℕ)) (s : Script) → AreLinesOf (xs ++ ys) s → IsPassed xs ys
+passed xs ys s h =
+    let parts : IsSaid xs ys (said_by s) = said_parts xs ys (said_by s) h.say in
+    let all = can_be_said s h.turns in
+    let whole : option_and_then (λ now. there_after now parts.more) (there_after false parts.before) ≡ Some all.0 =
+    sym (there_append false parts.before parts.more) ∙ ap (there_after false) (sym parts.are) ∙ all.1 in
+    let can = first_can _ _ _ whole in
+    record {
+      before = parts.before;
+      more = parts.more;
+      now = can.0;
+      there = all.0;
+      first = parts.first;
+      last = parts.last;
+      at_first = can.1;
+      at_last = can.2;
+    }
+
+front : (xs ys : List (List ℕ)) (s : Script) → AreLinesOf (xs ++ ys) s → (t : Script) × AreLinesOf xs t
+front xs ys s h =
+    let p = passed xs ys s h in
+    let from = said_from false p.now p.before p.at_first in
+    (from.0, record { say = subst (AllZip IsLine xs) from.1 p.first; turns = from.2 })
 
 pub text_more : (lines : List (List ℕ)) (line : List ℕ) → text_of (lines ++ line ∷ []) ≡ text_of lines ++ (line ++ 10 ∷ [])
 text_more lines line = text-append lines (line ∷ []) ∙ ap (λ (t : List ℕ). text_of lines ++ t) (append-nil (line ++ 10 ∷ []))
 
-no_empty_send : (m : Message) → IsSend [] m → ⊥
-no_empty_send m h = let spelled = h.spelled in absurd (cc)
+empty_says : (x : Said) → IsLine [] x → ⊥
+empty_says Joins h = absurd (cc h)
+empty_says (Sends m) h = let spelled = h.spelled in absurd (cc)
+
+empty_last : (said : List Said) → AllZip IsLine ([] ∷ []) said → ⊥
+empty_last [] h = h
+empty_last (x ∷ said) h = empty_says x h.0
 
 no_empty_line : (lines : List (List ℕ)) (s : Script) → AreLinesOf (lines ++ [] ∷ []) s → ⊥
-no_empty_line [] Nobody h = h
-no_empty_line [] (Visitor ms) h = absurd (cc (h.0))
-no_empty_line (l ∷ ls) Nobody h = h
-no_empty_line (l ∷ ls) (Visitor ms) h = let last = last_send ls ms [] h.1 in no_empty_send last.0 last.1
-
-sends_front : (xs ys : List (List ℕ)) (ms : List Message) → AreSends (xs ++ ys) ms → (ks : List Message) × AreSends xs ks
-sends_front [] ys ms h = ([], tt)
-sends_front (x ∷ xs) ys [] h = absurd h
-sends_front (x ∷ xs) ys (m ∷ ms) h = let front = sends_front xs ys ms h.1 in (m ∷ front.0, (h.0, front.1))
-
-front : (xs ys : List (List ℕ)) (s : Script) → AreLinesOf (xs ++ ys) s → (t : Script) × AreLinesOf xs t
-front [] ys s h = (Nobody, tt)
-front (x ∷ xs) ys Nobody h = absurd h
-front (x ∷ xs) ys (Visitor ms) h = let sent = sends_front xs ys ms h.1 in (Visitor sent.0, (h.0, sent.1))
+no_empty_line lines s h = let p = passed lines ([] ∷ []) s h in empty_last p.more p.last
 
 -- ---- one script
+
+-- bytes are one message, or none
+pub one_received : (bytes : List ℕ) (m k : Option Message) → IsReceived bytes m → IsReceived bytes k → m ≡ k
+one_received bytes None None h j = refl
+one_received bytes None (Some k) h j = absurd (h k j)
+one_received bytes (Some m) None h j = absurd (j m h)
+one_received bytes (Some m) (Some k) h j = ap Some (messages.one bytes m k h j)
 
 behind_words : (a b : List ℕ) → codes "send 1 " ++ a ≡ codes "send 1 " ++ b → a ≡ b
 behind_words a b e = cc
 
-one_send : (line : List ℕ) (m k : Message) → IsSend line m → IsSend line k → m ≡ k
-one_send line m k h j =
-    let same = behind_words h.text j.text (sym h.spelled ∙ j.spelled) in
-    messages.one j.text m k (subst (λ text. IsMessage text m) same h.read) j.read
+-- no line that sends something is the line by which a visitor joins
+pub no_join : (line : List ℕ) (m : Option Message) → IsLine line (Sends m) → line ≡ codes "join 1" → ⊥
+no_join line m h e =
+    let spelled = h.spelled in
+    let letter : ◌≡◌ {A = ℕ} 115 106 = cc in
+    omega arith
 
-same_sends : (lines : List (List ℕ)) (ms ks : List Message) → AreSends lines ms → AreSends lines ks → ms ≡ ks
-same_sends [] [] [] h j = refl
-same_sends [] [] (k ∷ ks) h j = absurd j
-same_sends [] (m ∷ ms) ks h j = absurd h
-same_sends (l ∷ ls) [] ks h j = absurd h
-same_sends (l ∷ ls) (m ∷ ms) [] h j = absurd j
-same_sends (l ∷ ls) (m ∷ ms) (k ∷ ks) h j =
-    ap (λ (n : Message). n ∷ ms) (one_send l m k h.0 j.0) ∙ ap (λ (l : List Message). k ∷ l) (same_sends ls ms ks h.1 j.1)
+one_said : (line : List ℕ) (x y : Said) → IsLine line x → IsLine line y → x ≡ y
+one_said line Joins Joins h j = refl
+one_said line Joins (Sends k) h j = absurd (no_join line k j h)
+one_said line (Sends m) Joins h j = absurd (no_join line m h j)
+one_said line (Sends m) (Sends k) h j =
+    let same = behind_words h.text j.text (sym h.spelled ∙ j.spelled) in
+    ap Sends (one_received j.text m k (subst (λ text. IsReceived text m) same h.received) j.received)
+
+pub same_said : (lines : List (List ℕ)) (xs ys : List Said) → AllZip IsLine lines xs → AllZip IsLine lines ys → xs ≡ ys
+same_said [] [] [] h j = refl
+same_said [] [] (y ∷ ys) h j = absurd j
+same_said [] (x ∷ xs) ys h j = absurd h
+same_said (l ∷ ls) [] ys h j = absurd h
+same_said (l ∷ ls) (x ∷ xs) [] h j = absurd j
+same_said (l ∷ ls) (x ∷ xs) (y ∷ ys) h j =
+    ap (λ (s : Said). s ∷ xs) (one_said l x y h.0 j.0) ∙ ap (λ (s : List Said). y ∷ s) (same_said ls xs ys h.1 j.1)
 
 same_script : (lines : List (List ℕ)) (s t : Script) → AreLinesOf lines s → AreLinesOf lines t → s ≡ t
-same_script [] Nobody Nobody h j = refl
-same_script [] Nobody (Visitor ks) h j = absurd j
-same_script [] (Visitor ms) t h j = absurd h
-same_script (l ∷ ls) Nobody t h j = absurd h
-same_script (l ∷ ls) (Visitor ms) Nobody h j = absurd j
-same_script (l ∷ ls) (Visitor ms) (Visitor ks) h j = ap Visitor (same_sends ls ms ks h.1 j.1)
+same_script lines s t h j = same_stays s t (same_said lines (said_by s) (said_by t) h.say j.say)
+
+no_last : (line : List ℕ) (more : List Said) (now there after : Bool) → AllZip IsLine (line ∷ []) more → now ≡ there
+    → ((x : Said) → IsLine line x → there_after there (x ∷ []) ≡ None) → there_after now more ≡ Some after → ⊥
+no_last line [] now there after last same none can = absurd last
+no_last line (x ∷ y ∷ more) now there after last same none can = absurd last.1
+no_last line (x ∷ []) now there after last same none can =
+    let cannot : there_after there (x ∷ []) ≡ None = none x last.0 in
+    let moved : there_after now (x ∷ []) ≡ there_after there (x ∷ []) = ap (λ t. there_after t (x ∷ [])) same in
+    let clash : ◌≡◌ {A = Option Bool} None (Some after) = sym cannot ∙ sym moved ∙ can in
+    absurd (cc)
+
+-- A line can't follow lines that say this, where nothing that it says can be said then.
+pub cant_follow : (lines : List (List ℕ)) (line : List ℕ) (said : List Said) (there : Bool) → AllZip IsLine lines said → there_after false said ≡ Some there
+    → ((x : Said) → IsLine line x → there_after there (x ∷ []) ≡ None) → (more : Script) → AreLinesOf (lines ++ line ∷ []) more → ⊥
+cant_follow lines line said there say now none more h =
+    let p = passed lines (line ∷ []) more h in
+    let same : Some p.now ≡ Some there = sym p.at_first ∙ ap (there_after false) (same_said lines p.before said p.first say) ∙ now in
+    no_last line p.more p.now there p.there p.last (cc) none p.at_last
 
 same_by_lines : (xs ys : List (List ℕ)) (s t : Script) → AreLinesOf xs s → AreLinesOf ys t → text_of xs ≡ text_of ys → s ≡ t
 same_by_lines xs ys s t h j e =

@@ -1,22 +1,25 @@
 -- What a visitor is sent who opens the notebook with a slider, sets it to 4 and then to 11.
-use Rattle.std.proofs.Common.{◌≡◌, ◌∙◌, ap, ℕ, cond, is_none, List, [], ◌∷◌, ◌++◌, Option, Some, None}
+use Rattle.std.proofs.Common.{◌≡◌, ◌∙◌, refl, ap, ℕ, cond, is_none, List, [], ◌∷◌, ◌++◌, Option, Some, None}
 use Rattle.std.specs.Prelude.{codes, flat_map, not, pos}
 use Rattle.std.specs.Fmt.{digits}
 use Rattle.py_tree.specs.Names.{Name, is_among}
 use Rattle.py_value.specs.ElementData.{ElementData}
 use Rattle.py_value.specs.Elements.{slider}
-use Rattle.py_value.specs.Maps.{Map, where_name}
+use Rattle.py_value.specs.Maps.{where_name}
 use Rattle.py_value.specs.declared.types.Data.TheVariants as D
-use Rattle.py_value.specs.declared.types.Value.{Value}
 use Rattle.py_value.specs.declared.types.Value.TheVariants as V
-use Rattle.visit_meaning.specs.Answer.{Answered, Before, Message, On, Open, Part, Set, answer, answer_by, answer_set, answer_with, at_no_cost, counted, present_after, parts_from, results_of, value_set, with_value}
+use Rattle.messages.specs.declared.message.Message.{Message}
+use Rattle.messages.specs.declared.message.Message.TheVariants.{Open, Close}
+use Rattle.messages.specs.declared.message.SetItem.{SetItem}
+use Rattle.message_meaning.specs.Messages.{set_item}
+use Rattle.visit_meaning.specs.Answer.{Answered, Before, On, Part, answer, answer_by, answer_set, answer_with, at_no_cost, counted, present_after, parts_from, results_of, value_set, with_value}
 use Rattle.graph_meaning.specs.Graph.{elements_of}
 use Rattle.run_meaning.specs.Meaning.{Env}
 use Rattle.graph_meaning.specs.Reruns.{rerun}
 use Rattle.visit_meaning.specs.Whole.{whole}
 use Rattle.run_meaning.specs.declared.binding.Binding.TheVariants.{Plain, Module}
 use Rattle.program_meaning.specs.Program.{usual_budget}
-use Rattle.program_meaning.specs.Samples.{s_at_four, with_slider}
+use Rattle.program_meaning.specs.Samples.{s_at_four, sets_s, with_slider}
 use Rattle.run_meaning.specs.Spending.{pay, show}
 use Rattle.frames.specs.declared.frame.Frame.TheVariants as frame
 use Rattle.frames.specs.declared.frame.Output.{Output}
@@ -31,9 +34,6 @@ result c shown n = record { frame = frame.Cell (record { cell = c; status = stat
 abbrev plain : List ℕ → Option Output
 plain text = Some (record { text = text; kind = output.Plain })
 
-abbrev pub at_eleven : Map Value
-at_eleven = (codes "s", V.Int (pos 11)) ∷ []
-
 -- the parts of the three answers
 abbrev pub to_open : List Part
 to_open = result 0 None 1 ∷ result 1 None 4 ∷ result 2 (plain (codes "1")) 5 ∷ at_no_cost (frame.Done 3) ∷ []
@@ -44,9 +44,12 @@ to_four = result 2 (plain (codes "5")) 5 ∷ at_no_cost (frame.Done 1) ∷ []
 abbrev pub to_eleven : List Part
 to_eleven = at_no_cost (frame.NoValue (codes "s")) ∷ at_no_cost (frame.Done 0) ∷ []
 
+abbrev pub to_none : List Part
+to_none = at_no_cost frame.BadMessage ∷ at_no_cost (frame.Done 0) ∷ []
+
 -- ---- each answer
 
-pub opens : answer with_slider usual_budget Before Open
+pub opens : answer with_slider usual_budget Before (Some Open)
     ≡ record { state = On []; parts = to_open }
 unfolding digits pay show
 opens = simp (same_text, a_number, a_text)
@@ -78,15 +81,19 @@ results_are : results_of with_slider usual_budget s_at_four (2 ∷ []) ≡ resul
 unfolding digits pay show
 results_are = simp (same_text, a_number, a_text)
 
-pub sets : answer with_slider usual_budget (On []) (Set s_at_four)
+-- what is sent
+abbrev four : SetItem
+four = set_item (codes "s") (Some (V.Int (pos 4)))
+
+pub sets : answer with_slider usual_budget (On []) (Some (sets_s 4))
     ≡ record { state = On s_at_four; parts = to_four }
 sets =
-    ap (λ env. answer_set with_slider usual_budget env [] s_at_four) opened_is
-    ∙ ap (λ o. answer_by with_slider usual_budget opened [] s_at_four None (cond (is_none o) (Some (codes "s", V.Int (pos 4))) None)) fits
+    ap (λ env. answer_set with_slider usual_budget env [] (four ∷ [])) opened_is
+    ∙ ap (λ o. answer_by with_slider usual_budget opened [] s_at_four None (cond (is_none o) (Some four) None)) fits
     ∙ ap (λ ui. answer_with with_slider usual_budget ui (2 ∷ [])) next_is
     ∙ ap (λ parts. record { state = On s_at_four; parts = counted parts }) results_are
 
-pub refuses : answer with_slider usual_budget (On s_at_four) (Set at_eleven)
+pub refuses : answer with_slider usual_budget (On s_at_four) (Some (sets_s 11))
     ≡ record { state = On s_at_four; parts = to_eleven }
 unfolding pay show
 refuses = simp (same_text, a_number, a_text)
@@ -94,11 +101,20 @@ refuses = simp (same_text, a_number, a_text)
 -- ---- one after the other
 
 -- an answer, and those to the messages behind it
-abbrev later : Answered → List Message → List Part
+abbrev later : Answered → List (Option Message) → List Part
 later a ms = a.parts ++ parts_from with_slider usual_budget a.state ms
 
-pub all_parts : parts_from with_slider usual_budget Before (Open ∷ Set s_at_four ∷ Set at_eleven ∷ []) ≡ to_open ++ to_four ++ to_eleven
-all_parts =
-    ap (λ a. later a (Set s_at_four ∷ Set at_eleven ∷ [])) opens
-    ∙ ap (λ a. to_open ++ later a (Set at_eleven ∷ [])) sets
-    ∙ ap (λ a. to_open ++ to_four ++ later a []) refuses
+-- where the slider is set, messages behind that
+abbrev pub set_then : List (Option Message) → List (Option Message)
+set_then ms = Some Open ∷ Some (sets_s 4) ∷ ms
+
+pub after_set : (ms : List (Option Message)) → parts_from with_slider usual_budget Before (set_then ms)
+    ≡ to_open ++ to_four ++ parts_from with_slider usual_budget (On s_at_four) ms
+after_set ms = ap (λ a. later a (Some (sets_s 4) ∷ ms)) opens ∙ ap (λ a. to_open ++ later a ms) sets
+
+pub all_parts : parts_from with_slider usual_budget Before (set_then (Some (sets_s 11) ∷ [])) ≡ to_open ++ to_four ++ to_eleven
+all_parts = after_set (Some (sets_s 11) ∷ []) ∙ ap (λ a. to_open ++ to_four ++ later a []) refuses
+
+-- what is no message is refused, and a close message has no answer
+pub others : parts_from with_slider usual_budget (On s_at_four) (None ∷ Some Close ∷ []) ≡ to_none
+others = refl

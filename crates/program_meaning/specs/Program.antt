@@ -7,7 +7,8 @@ use Rattle.graph_meaning.specs.Graph.{IsDoubled, NoneDoubled, NoneCyclic, IsCycl
 use Rattle.form_meaning.specs.Fails.{FailsAt}
 use Rattle.form_meaning.specs.Thin.{IsForm}
 use Rattle.py_tree.specs.TextLines.{byte_limit}
-use Rattle.visit_meaning.specs.Answer.{Open, solo}
+use Rattle.messages.specs.declared.message.Message.TheVariants.{Open}
+use Rattle.visit_meaning.specs.Answer.{solo}
 use Rattle.frame_meaning.specs.FrameText.{frame_lines}
 use Rattle.program_meaning.specs.Scripts.{Script, IsScript, FaultAt, script_text, fault_text}
 
@@ -45,7 +46,7 @@ usual_budget = 200000
 
 -- what is written for `once` where the cells are accepted: the frames of the opening of one visitor, one a line
 abbrev pub once_text : List Cell → List ℕ
-once_text nb = frame_lines (solo nb usual_budget (Open ∷ []))
+once_text nb = frame_lines (solo nb usual_budget (Some Open ∷ []))
 
 -- what is read of a file: its bytes, or one byte more than the limit
 abbrev pub read_of : List ℕ → List ℕ

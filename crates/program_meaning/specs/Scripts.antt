@@ -1,37 +1,77 @@
--- Scripts: a visitor who joins and sends messages, one line each.
-use Rattle.std.specs.Prelude.{◌≡◌, ◌⊎◌, ℕ, zero, suc, ◌<◌, ◌≤◌, not, ◌==◌, IsTrue, List, [], ◌∷◌, ◌++◌, length, codes, decimal}
-use Rattle.std.specs.List.{list_all}
+-- Scripts: visitors who join one after the other, each of whom sends messages, one line each.
+use Rattle.std.specs.Prelude.{◌≡◌, ◌⊎◌, ℕ, zero, suc, ◌<◌, ◌≤◌, Bool, true, false, not, IsTrue, List, [], ◌∷◌, ◌++◌, length, map, flat_map, sum_by, codes, decimal, Option, Some}
+use Rattle.std.specs.List.{list_all, AllZip}
+use Rattle.messages.specs.declared.message.Message.{Message}
+use Rattle.messages.specs.declared.message.Message.TheVariants.{Close}
+use Rattle.message_meaning.specs.Messages.{IsReceived}
 use Rattle.py_tree.specs.Trees.{Cell}
-use Rattle.visit_meaning.specs.Answer.{Message, solo}
+use Rattle.visit_meaning.specs.Answer.{Before, Part, parts_from, solo, work}
 use Rattle.frame_meaning.specs.FrameText.{labelled}
-use Rattle.visit_meaning.specs.Messages.{IsMessage, IsTextOf}
-use Rattle.py_tree.specs.TextLines.{text_of, byte_limit}
+use Rattle.py_tree.specs.TextLines.{is_unbroken, text_of, byte_limit}
 
--- what a script says: nobody joins, or the visitor 1 joins and sends these messages
-pub data Script : Type 0 where
-  Nobody : Script
-  Visitor : (ms : List Message) → Script
+-- ---- what a script says
 
--- The line sends a text that has the form of a message. What is sent is that message, or no message where the text is too long.
-pub record IsSend (line : List ℕ) (m : Message) : Type 0 where
+-- what a visitor sends from joining on: messages, and bytes that are none
+abbrev pub Stay : Type 0
+Stay = List (Option Message)
+
+-- whether this is the close message
+abbrev pub is_close : Option Message → Bool
+is_close (Some Close) = true
+is_close m = false
+
+-- no close message is sent: the visitor is there still
+abbrev pub NoneCloses : Stay → Type 0
+NoneCloses ms = IsTrue (list_all (λ m. not (is_close m)) ms)
+
+-- The last message is the only close message: the visitor isn't there any more.
+abbrev pub LastCloses : Stay → Type 0
+LastCloses ms = (before : Stay) × NoneCloses before × (ms ≡ before ++ Some Close ∷ [])
+
+-- what a script says: what each of its visitors sends
+abbrev pub Script : Type 0
+Script = List Stay
+
+-- A visitor joins once the one before has sent a close message, which ends the stay; the last visitor may be there at the end.
+abbrev pub InTurn : Script → Type 0
+InTurn [] = Unit {0}
+InTurn (ms ∷ []) = NoneCloses ms ⊎ LastCloses ms
+InTurn (ms ∷ next ∷ more) = LastCloses ms × InTurn (next ∷ more)
+
+-- all that is sent, by one visitor after the other
+abbrev pub messages_of : Script → List (Option Message)
+messages_of = flat_map (λ ms. ms)
+
+-- ---- how it is written
+
+-- what a line says: a visitor joins, or the visitor who is there sends this
+pub data Said : Type 0 where
+  Joins : Said
+  Sends : (m : Option Message) → Said
+
+-- The line sends these bytes, whichever they are: the rest of the line.
+pub record IsSend (line : List ℕ) (m : Option Message) : Type 0 where
   pub text : List ℕ
+  pub unbroken : IsTrue (is_unbroken text)
   pub spelled : line ≡ codes "send 1 " ++ text
-  pub said : Message
-  pub form : IsTextOf text said
-  pub read : IsMessage text m
+  pub received : IsReceived text m
 
-abbrev pub AreSends : List (List ℕ) → List Message → Type 0
-AreSends [] [] = Unit {0}
-AreSends [] (m ∷ ms) = ⊥
-AreSends (line ∷ lines) [] = ⊥
-AreSends (line ∷ lines) (m ∷ ms) = IsSend line m × AreSends lines ms
+abbrev pub IsLine : List ℕ → Said → Type 0
+IsLine line Joins = line ≡ codes "join 1"
+IsLine line (Sends m) = IsSend line m
 
--- The lines say this, each without its line end: nobody sends anything before joining, and who is there doesn't join again.
-abbrev pub AreLinesOf : List (List ℕ) → Script → Type 0
-AreLinesOf [] Nobody = Unit {0}
-AreLinesOf [] (Visitor ms) = ⊥
-AreLinesOf (line ∷ lines) Nobody = ⊥
-AreLinesOf (line ∷ lines) (Visitor ms) = (line ≡ codes "join 1") × AreSends lines ms
+-- the lines of a visitor, and of all visitors
+abbrev pub said_in : Stay → List Said
+said_in ms = Joins ∷ map Sends ms
+
+abbrev pub said_by : Script → List Said
+said_by = flat_map said_in
+
+-- The lines say this, each without its line end: nobody sends anything before joining or after a close message, and nobody joins while a
+-- visitor is there.
+pub record AreLinesOf (lines : List (List ℕ)) (script : Script) : Type 0 where
+  pub say : AllZip IsLine lines (said_by script)
+  pub turns : InTurn script
 
 -- The bytes are a script that says this. Its last line may lack its line end.
 pub record IsScript (bytes : List ℕ) (script : Script) : Type 0 where
@@ -46,7 +86,7 @@ IsNoScript bytes = (script : Script) → IsScript bytes script → ⊥
 
 -- The first line of bytes, and what comes after it. The last line may lack its line end, and no bytes have no line.
 pub record FirstLine (bytes line after : List ℕ) : Type 0 where
-  pub unbroken : IsTrue (list_all (λ b. not (b == 10)) line)
+  pub unbroken : IsTrue (is_unbroken line)
   pub text : (bytes ≡ line ++ 10 ∷ after) ⊎ ((bytes ≡ line) × (after ≡ []) × (0 < length line))
 
 -- The bytes begin with k lines that a script may begin with, and the next line can't follow these.
@@ -67,16 +107,20 @@ abbrev pub FaultAt : List ℕ → ℕ → Type 0
 FaultAt bytes zero = byte_limit < length bytes
 FaultAt bytes (suc k) = (length bytes ≤ byte_limit) × FaultBehind bytes k
 
+-- ---- what is written for it
+
 -- the line that is written for bytes that are no script
 abbrev pub fault_text : ℕ → List ℕ
 fault_text line = codes "script " ++ decimal line ++ codes "\n"
 
--- the messages that the visitor sends
-abbrev pub messages_of : Script → List Message
-messages_of Nobody = []
-messages_of (Visitor ms) = ms
-
--- What is written for a script: each frame of the visitor on a line, behind the visitor's number, and how many cached blocks were run
--- and taken from the cache. This form of code has none.
+-- What is written for a script: each frame of each visitor, as if alone, on a line behind the visitor's number, and how many cached blocks
+-- were run and taken from the cache. This form of code has none.
 abbrev pub script_text : List Cell → ℕ → Script → List ℕ
-script_text nb budget script = labelled (codes "1 ") (solo nb budget (messages_of script)) ++ codes "end runs 0 hits 0\n"
+script_text nb budget script = labelled (codes "1 ") (flat_map (solo nb budget) script) ++ codes "end runs 0 hits 0\n"
+
+-- the parts of the answers to one visitor after the other, and the steps of all cells that run for them
+abbrev pub script_parts : List Cell → ℕ → Script → List Part
+script_parts nb budget = flat_map (parts_from nb budget Before)
+
+abbrev pub script_work : List Cell → ℕ → Script → ℕ
+script_work nb budget = sum_by (work nb budget)

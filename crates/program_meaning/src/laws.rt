@@ -3,7 +3,8 @@ ghost use Rattle.std.specs.Prelude.{◌≡◌, ℕ, true, List, [], ◌∷◌, c
 ghost use Rattle.py_value.specs.ElementData.{ElementData};
 ghost use Rattle.py_value.specs.declared.types.Value.TheVariants as V;
 ghost use Rattle.py_value.specs.declared.error_kind.ErrorKind.TheVariants.{RuntimeError};
-ghost use Rattle.visit_meaning.specs.Answer.{Before, On, Open, Set, answer, cost_of_parts, frames_in, parts_from};
+ghost use Rattle.messages.specs.declared.message.Message.TheVariants.{Open, Close};
+ghost use Rattle.visit_meaning.specs.Answer.{Before, On, answer, cost_of_parts, frames_in, parts_from};
 ghost use Rattle.graph_meaning.specs.Graph.{order};
 ghost use Rattle.graph_meaning.specs.Reruns.{rerun};
 ghost use Rattle.visit_meaning.specs.Whole.{whole};
@@ -11,8 +12,8 @@ ghost use Rattle.frame_meaning.specs.FrameText.{frame_lines};
 ghost use Rattle.form_meaning.specs.Thin.{are_thin, file_lines};
 ghost use Rattle.py_tree.specs.TextLines.{text_of};
 ghost use Rattle.program_meaning.specs.Program.{IsAccepted, Doubly, Cycle, FailsFirst, refusal_text, usual_budget, once_text};
-ghost use Rattle.program_meaning.specs.Samples.{three_cells, three_cells_file, three_cells_text, lone_name, lone_name_text, failing, failing_text, doubled, cyclic, diamond, too_great, too_great_text, four_steps, with_slider, with_slider_file, with_slider_text, with_slider_answers, with_slider_script, with_slider_played, s_at_four, reads_s};
-ghost use Rattle.program_meaning.specs.Scripts.{Script, Nobody, Visitor, IsScript, FaultAt, script_text};
+ghost use Rattle.program_meaning.specs.Samples.{three_cells, three_cells_file, three_cells_text, lone_name, lone_name_text, failing, failing_text, doubled, cyclic, diamond, too_great, too_great_text, four_steps, with_slider, with_slider_file, with_slider_text, with_slider_answers, with_slider_script, with_slider_played, two_visitors_script, two_visitors_played, s_at_four, sets_s, reads_s};
+ghost use Rattle.program_meaning.specs.Scripts.{Script, IsScript, FaultAt, script_text};
 ghost use Rattle.run_meaning.specs.Spending.{Failed, Spent, runs, cost_of};
 ghost use Rattle.run_meaning.specs.declared.binding.Binding.TheVariants.{Plain};
 ghost use Rattle.frames.specs.declared.frame.CellFrame.{CellFrame};
@@ -65,15 +66,13 @@ pub fn worked_slider()
 /// the cells that run for each answer.
 pub fn worked_answers()
     ensures frames { frame_lines (frames_in (parts_from with_slider usual_budget Before
-        (Open ∷ Set ((codes "s", V.Int (pos 4)) ∷ [])
-        ∷ Set ((codes "s", V.Int (pos 11)) ∷ []) ∷ []))) ≡ with_slider_answers }
-    ensures opening { cost_of_parts (answer with_slider usual_budget Before Open).parts ≡ 10 }
+        (Some Open ∷ Some (sets_s 4) ∷ Some (sets_s 11) ∷ []))) ≡ with_slider_answers }
+    ensures opening { cost_of_parts (answer with_slider usual_budget Before (Some Open)).parts
+        ≡ 10 }
     ensures set { cost_of_parts
-        (answer with_slider usual_budget (On []) (Set ((codes "s", V.Int (pos 4)) ∷ []))).parts
-        ≡ 5 }
+        (answer with_slider usual_budget (On []) (Some (sets_s 4))).parts ≡ 5 }
     ensures refused { cost_of_parts
-        (answer with_slider usual_budget (On s_at_four)
-        (Set ((codes "s", V.Int (pos 11)) ∷ []))).parts ≡ 0 }
+        (answer with_slider usual_budget (On s_at_four) (Some (sets_s 11))).parts ≡ 0 }
 {}
 
 /// Bytes that are a script have no line that can't stand where it stands, and say one thing only; and other bytes have no two first such lines.
@@ -84,16 +83,22 @@ pub fn scripts_are_read_one_way()
     ensures line { (bytes : List ℕ) (k l : ℕ) → FaultAt bytes k → FaultAt bytes l → k ≡ l }
 {}
 
-/// The script of a visitor who opens the notebook with a slider and sets it to 4 and then to 11, and what is written for it; the empty script;
-/// and the first lines that can't stand where they stand of a script that is an empty line, and of one in which the visitor 2 sends something.
+/// The script of a visitor who opens the notebook with a slider and sets it to 4 and then to 11, and what is written for it; the same of a script
+/// of two visitors; the empty script; and the first lines that can't stand where they stand of a script that is an empty line, of one in which
+/// the visitor 2 sends something, one in which the visitor sends something after closing, and one in which the visitor joins twice.
 pub fn worked_scripts()
     ensures read { IsScript with_slider_script
-        (Visitor (Open ∷ Set ((codes "s", V.Int (pos 4)) ∷ [])
-        ∷ Set ((codes "s", V.Int (pos 11)) ∷ []) ∷ [])) }
+        ((Some Open ∷ Some (sets_s 4) ∷ Some (sets_s 11) ∷ []) ∷ []) }
     ensures played { script_text with_slider usual_budget
-        (Visitor (Open ∷ Set ((codes "s", V.Int (pos 4)) ∷ [])
-        ∷ Set ((codes "s", V.Int (pos 11)) ∷ []) ∷ [])) ≡ with_slider_played }
-    ensures nobody { IsScript [] Nobody }
+        ((Some Open ∷ Some (sets_s 4) ∷ Some (sets_s 11) ∷ []) ∷ []) ≡ with_slider_played }
+    ensures two_visitors { IsScript two_visitors_script
+        ((Some Open ∷ Some (sets_s 4) ∷ None ∷ Some Close ∷ []) ∷ (Some Open ∷ []) ∷ []) }
+    ensures two_played { script_text with_slider usual_budget
+        ((Some Open ∷ Some (sets_s 4) ∷ None ∷ Some Close ∷ []) ∷ (Some Open ∷ []) ∷ [])
+        ≡ two_visitors_played }
+    ensures nobody { IsScript [] [] }
     ensures empty_line { FaultAt (codes "\n") 1 }
     ensures other_visitor { FaultAt (codes "join 1\nsend 2 x") 2 }
+    ensures closed { FaultAt (codes "join 1\nsend 1 {\"close\":{}}\nsend 1 x\n") 3 }
+    ensures there { FaultAt (codes "join 1\nsend 1 x\njoin 1\n") 3 }
 {}

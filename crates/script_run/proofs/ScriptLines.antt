@@ -1,107 +1,87 @@
 -- Scripts, line by line.
-use Rattle.std.proofs.Common.{◌≡◌, ◌⊎◌, inl, inr, refl, sym, ap, ◌∙◌, ℕ, ◌+◌, ◌<◌, ◌≤◌, true, List, [], ◌∷◌, ◌++◌, length, length-append, append_assoc, append-nil, add-one, Bool, false, not, eqb, IsTrue, arith}
+use Rattle.std.proofs.Common.{◌≡◌, ◌⊎◌, inl, inr, refl, sym, ap, subst, ◌∙◌, ℕ, ◌+◌, ◌<◌, ◌≤◌, true, List, [], ◌∷◌, ◌++◌, length, length-append, map, append_assoc, append-nil, add-one, Bool, false, not, eqb, IsTrue, arith, Option, Some, None}
+use Rattle.std.specs.List.{AllZip}
 use Rattle.std.specs.Str.{bytes_eq}
-use Rattle.std.proofs.lemmas.Bool.{and_from, cases_lt, ne_eqb}
+use Rattle.std.proofs.lemmas.Bool.{and_from, and_parts, ne_eqb}
+use Rattle.std.proofs.lemmas.List.Folds.{list_all-append}
 use Rattle.std.proofs.lemmas.Slice.Eq.{bytes_eq-Decides}
-use Rattle.std.specs.Prelude.{codes}
-use Rattle.visit_meaning.specs.Answer as answer
-use Rattle.visit_meaning.specs.Messages.{IsTextOf, IsMessage, AreMessages, message_limit}
-use Rattle.program_meaning.specs.Scripts.{Script, Nobody, Visitor, IsSend, AreSends, AreLinesOf, IsScript, FirstLine, FaultAt, messages_of}
+use Rattle.std.specs.Prelude.{codes, option_and_then}
+use Rattle.messages.specs.declared.message.Message.{Message}
+use Rattle.message_meaning.specs.Messages.{IsReceived}
+use Rattle.message_meaning.specs.Sent.{AreReceived}
+use Rattle.program_meaning.specs.Scripts.{Stay, Script, Said, Joins, Sends, IsLine, IsScript, FirstLine, FaultAt, is_close, said_by, messages_of}
+use Rattle.program_meaning.proofs.ScriptTexts.{cant_follow, text_more}
+use Rattle.program_meaning.proofs.Turns.{said_from, there_after, there_append}
 use Rattle.py_tree.specs.TextLines.{text_of, byte_limit, is_unbroken}
-use Rattle.program_meaning.proofs.ScriptTexts.{last_send, text_more}
+use Rattle.script_run.specs.Script.{AreSent}
 
--- the line by which the visitor joins
+-- the line by which a visitor joins
 abbrev join_line : List ℕ
 join_line = codes "join 1"
 
--- The bytes are the line by which the visitor joins, lines that send messages of which these are the texts, and a rest. So many lines
--- stand before the rest. The last line may lack its line end.
-pub record IsReadTo (bytes : List ℕ) (sent : List (List ℕ)) (count : ℕ) (rest : List ℕ) : Type 0 where
+-- ---- what is sent
+
+abbrev sent_by : List Said → List (Option Message)
+sent_by [] = []
+sent_by (Joins ∷ more) = sent_by more
+sent_by (Sends m ∷ more) = m ∷ sent_by more
+
+sent_first : (ms : Stay) (more : List Said) → sent_by (map Sends ms ++ more) ≡ ms ++ sent_by more
+sent_first [] more = refl
+sent_first (m ∷ ms) more = ap (λ (l : Stay). m ∷ l) (sent_first ms more)
+
+sent_by_all : (s : Script) → sent_by (said_by s) ≡ messages_of s
+sent_by_all [] = refl
+sent_by_all (ms ∷ s) = sent_first ms (said_by s) ∙ ap (λ (l : Stay). ms ++ l) (sent_by_all s)
+
+sent_append : (before more : List Said) → sent_by (before ++ more) ≡ sent_by before ++ sent_by more
+sent_append [] more = refl
+sent_append (Joins ∷ before) more = sent_append before more
+sent_append (Sends m ∷ before) more = ap (λ (l : Stay). m ∷ l) (sent_append before more)
+
+received_append : (texts others : List (List ℕ)) (ms ks : List (Option Message)) → AreReceived texts ms → AreReceived others ks
+    → AreReceived (texts ++ others) (ms ++ ks)
+received_append [] others [] ks h j = j
+received_append [] others (m ∷ ms) ks h j = absurd h
+received_append (t ∷ texts) others [] ks h j = absurd h
+received_append (t ∷ texts) others (m ∷ ms) ks h j = (h.0, received_append texts others ms ks h.1 j)
+
+-- ---- how far the lines are read
+
+-- The bytes are lines of a script that send these texts, and a rest. So many lines stand before the rest, behind which a visitor is there or
+-- none is. The last line may lack its line end.
+pub record IsReadTo (bytes : List ℕ) (sent : List (List ℕ)) (there : Bool) (count : ℕ) (rest : List ℕ) : Type 0 where
   pub lines : List (List ℕ)
-  pub ms : List answer.Message
-  pub sends : AreSends lines ms
-  pub texts : AreMessages sent ms
-  pub counted : count ≡ length lines + 1
-  pub text : (bytes ≡ text_of (join_line ∷ lines) ++ rest) ⊎ ((bytes ++ 10 ∷ [] ≡ text_of (join_line ∷ lines)) × (rest ≡ []))
+  pub said : List Said
+  pub say : AllZip IsLine lines said
+  pub now : there_after false said ≡ Some there
+  pub texts : AreReceived sent (sent_by said)
+  pub counted : count ≡ length lines
+  pub text : (bytes ≡ text_of lines ++ rest) ⊎ ((bytes ++ 10 ∷ [] ≡ text_of lines) × (rest ≡ []))
   pub room : count + length rest ≤ byte_limit
   pub short : length bytes ≤ byte_limit
 
--- what a text of a message is: that message, and no message where it is too long
-pub message_in : (text : List ℕ) (m : answer.Message) → IsTextOf text m → (k : answer.Message) × IsMessage text k
-message_in text answer.Open h = (answer.Open, h)
-message_in text (answer.Set sets) h = elim (cases_lt message_limit (length text)) [
-  | inl long ↦ (answer.Other, inl long)
-  | inr short ↦ (answer.Set sets, (short, h))
-]
-message_in text answer.Other h = absurd h
+pub first : (bytes : List ℕ) → length bytes ≤ byte_limit → IsReadTo bytes [] false 0 bytes
+first bytes short = record {
+  lines = [];
+  said = [];
+  say = tt;
+  now = refl;
+  texts = tt;
+  counted = refl;
+  text = inl refl;
+  room = omega arith;
+  short = short;
+}
 
--- what a test says of the line by which the visitor joins
-shown : (b : Bool) → false ≡ not b → b ≡ true
-shown true h = refl
-shown false h = absurd (cc)
-
-pub is_join : (line : List ℕ) → false ≡ not (bytes_eq line join_line) → line ≡ join_line
-is_join line h = (bytes_eq-Decides line join_line).0 (shown _ h)
-
-pub is_other : (line : List ℕ) → true ≡ not (bytes_eq line join_line) → line ≡ join_line → ⊥
-is_other line h e = let same = (bytes_eq-Decides line join_line).1 e in absurd (cc (rw same at h))
-
--- ---- one line more
-
-sends_more : (lines : List (List ℕ)) (ms : List answer.Message) (line : List ℕ) (m : answer.Message) → AreSends lines ms → IsSend line m → AreSends (lines ++ line ∷ []) (ms ++ m ∷ [])
-sends_more [] [] line m h s = (s, tt)
-sends_more [] (k ∷ ks) line m h s = absurd h
-sends_more (l ∷ ls) [] line m h s = absurd h
-sends_more (l ∷ ls) (k ∷ ks) line m h s = (h.0, sends_more ls ks line m h.1 s)
-
-texts_more : (texts : List (List ℕ)) (ms : List answer.Message) (text : List ℕ) (m : answer.Message) → AreMessages texts ms → IsMessage text m → AreMessages (texts ++ text ∷ []) (ms ++ m ∷ [])
-texts_more [] [] text m h s = (s, tt)
-texts_more [] (k ∷ ks) text m h s = absurd h
-texts_more (t ∷ ts) [] text m h s = absurd h
-texts_more (t ∷ ts) (k ∷ ks) text m h s = (h.0, texts_more ts ks text m h.1 s)
-
-empty : (bs : List ℕ) → length bs ≡ 0 → bs ≡ []
-empty [] h = refl
-empty (b ∷ bs) h = absurd (omega arith)
-
--- ---- from the first line to the last
-
-shorter : {bytes line rest : List ℕ} → FirstLine bytes line rest → length rest < length bytes
+pub shorter : {bytes line rest : List ℕ} → FirstLine bytes line rest → length rest < length bytes
 shorter {bytes = bytes} {line = line} {rest = rest} c = elim c.text as (λ _. length rest < length bytes) [
   | inl e ↦ rw e (let n = length-append line (10 ∷ rest) in omega (arith, n))
   | inr e ↦ rw (e.0, e.1) e.2
 ]
 
-pub first : (bytes line rest : List ℕ) → FirstLine bytes line rest → line ≡ join_line → length bytes ≤ byte_limit → IsReadTo bytes [] 1 rest
-first bytes line rest c j short = record {
-  lines = [];
-  ms = [];
-  sends = tt;
-  texts = tt;
-  counted = refl;
-  text = elim c.text [ inl e ↦ inl (rw j at e) | inr e ↦ inr (ap (λ (l : List ℕ). l ++ 10 ∷ []) (e.0 ∙ j), e.1) ];
-  room = let s = shorter c in omega arith;
-  short = short;
-}
+-- ---- a line more of the text
 
-pub not_first : (bytes line rest : List ℕ) → FirstLine bytes line rest → (line ≡ join_line → ⊥) → length bytes ≤ byte_limit → FaultAt bytes 1
-not_first bytes line rest c other short = (
-  short,
-  record {
-    before = [];
-    script = Nobody;
-    say = tt;
-    count = refl;
-    line = line;
-    rest = bytes;
-    text = refl;
-    after = rest;
-    next = c;
-    stops = λ more. elim more as (λ (s : Script). AreLinesOf (line ∷ []) s → ⊥) [ Nobody ↦ λ h. h | Visitor ms ↦ λ h. other h.0 ];
-  },
-)
-
--- a line more of the text
 abbrev IsText : (bytes : List ℕ) (lines : List (List ℕ)) (rest : List ℕ) → Type 0
 IsText bytes lines rest = (bytes ≡ text_of lines ++ rest) ⊎ ((bytes ++ 10 ∷ [] ≡ text_of lines) × (rest ≡ []))
 
@@ -122,53 +102,121 @@ more_text bytes lines rest line behind t c =
       )
     ]
 
-pub more : (bytes : List ℕ) (sent : List (List ℕ)) (count : ℕ) (rest line behind text : List ℕ) (m : answer.Message) → IsReadTo bytes sent count rest → FirstLine rest line behind → IsSend line m → IsMessage text m → IsReadTo bytes (sent ++ text ∷ []) (count + 1) behind
-more bytes sent count rest line behind text m before c send is = record {
+lines_more : (lines : List (List ℕ)) (said : List Said) (line : List ℕ) (x : Said) → AllZip IsLine lines said → IsLine line x
+    → AllZip IsLine (lines ++ line ∷ []) (said ++ x ∷ [])
+lines_more [] [] line x h is = (is, tt)
+lines_more [] (y ∷ said) line x h is = absurd h
+lines_more (l ∷ lines) [] line x h is = absurd h
+lines_more (l ∷ lines) (y ∷ said) line x h is = (h.0, lines_more lines said line x h.1 is)
+
+more : {bytes : List ℕ} {sent : List (List ℕ)} {there : Bool} {count : ℕ} {rest line behind : List ℕ} → (x : Said) (texts : List (List ℕ)) (after : Bool)
+    → IsReadTo bytes sent there count rest → FirstLine rest line behind → IsLine line x → AreReceived texts (sent_by (x ∷ []))
+    → there_after there (x ∷ []) ≡ Some after → IsReadTo bytes (sent ++ texts) after (count + 1) behind
+more {bytes = bytes} {sent = sent} {count = count} {rest = rest} {line = line} {behind = behind} x texts after before c is received can = record {
   lines = before.lines ++ line ∷ [];
-  ms = before.ms ++ m ∷ [];
-  sends = sends_more before.lines before.ms line m before.sends send;
-  texts = texts_more sent before.ms text m before.texts is;
+  said = before.said ++ x ∷ [];
+  say = lines_more before.lines before.said line x before.say is;
+  now = there_append false before.said (x ∷ []) ∙ ap (λ (o : Option Bool). option_and_then (λ t. there_after t (x ∷ [])) o) before.now ∙ can;
+  texts = subst (AreReceived (sent ++ texts)) (sym (sent_append before.said (x ∷ [])))
+      (received_append sent texts (sent_by before.said) (sent_by (x ∷ [])) before.texts received);
   counted = let n = length-append before.lines (line ∷ []) in let k = before.counted in omega arith;
-  text = more_text bytes (join_line ∷ before.lines) rest line behind before.text c;
+  text = more_text bytes before.lines rest line behind before.text c;
   room = let s = shorter c in let r = before.room in omega arith;
   short = before.short;
 }
 
-pub stops : (bytes : List ℕ) (sent : List (List ℕ)) (count : ℕ) (rest line behind : List ℕ) → IsReadTo bytes sent count rest → FirstLine rest line behind → ((m : answer.Message) → IsSend line m → ⊥) → FaultAt bytes (count + 1)
-stops bytes sent count rest line behind before c none = rw add-one (
-  before.short,
-  record {
-    before = join_line ∷ before.lines;
-    script = Visitor before.ms;
-    say = (refl, before.sends);
-    count = let k = before.counted in omega arith;
-    line = line;
-    rest = rest;
-    text = some_rest bytes (join_line ∷ before.lines) rest before.text (let s = shorter c in omega arith);
-    after = behind;
-    next = c;
-    stops = λ more. elim more as (λ (s : Script). AreLinesOf (join_line ∷ (before.lines ++ line ∷ [])) s → ⊥) [
-      | Nobody ↦ λ h. h
-      | Visitor ms ↦ λ h. let last = last_send before.lines ms line h.1 in none last.0 last.1
-    ];
-  },
-)
+-- ---- which line it is
 
-pub whole : (bytes : List ℕ) (sent : List (List ℕ)) (count : ℕ) (rest : List ℕ) → IsReadTo bytes sent count rest → length rest ≡ 0
-    → (said : Script) × IsScript bytes said × AreMessages sent (messages_of said)
-whole bytes sent count rest before none = (
-  Visitor before.ms,
-  record {
-    lines = join_line ∷ before.lines;
-    say = (refl, before.sends);
-    text = elim before.text [
-      | inl e ↦ inl (e ∙ ap (λ (r : List ℕ). text_of (join_line ∷ before.lines) ++ r) (empty rest none) ∙ append-nil _)
-      | inr e ↦ inr e.0
-    ];
-    short = before.short;
-  },
-  before.texts,
-)
+pub joins : {bytes : List ℕ} {sent : List (List ℕ)} {there : Bool} {count : ℕ} {rest line behind : List ℕ} → IsReadTo bytes sent there count rest
+    → FirstLine rest line behind → there ≡ false → line ≡ join_line → IsReadTo bytes sent true (count + 1) behind
+joins {bytes = bytes} {sent = sent} {count = count} {behind = behind} before c now e =
+    subst (λ (texts : List (List ℕ)). IsReadTo bytes texts true (count + 1) behind) (append-nil sent)
+    (more Joins [] true before c e tt (ap (λ t. there_after t (Joins ∷ [])) now))
+
+-- what stands behind words of a line with no line end has none
+behind_words : (line text : List ℕ) → IsTrue (is_unbroken line) → line ≡ codes "send 1 " ++ text → IsTrue (is_unbroken text)
+behind_words line text p e =
+    let whole : IsTrue (is_unbroken (codes "send 1 " ++ text)) = rw e at p in
+    let parts = rw (list_all-append (λ b. not (eqb b 10)) (codes "send 1 ") text) at whole in
+    (and_parts (is_unbroken (codes "send 1 ")) (is_unbroken text) parts).1
+
+pub sends : {bytes : List ℕ} {sent : List (List ℕ)} {there : Bool} {count : ℕ} {rest line behind : List ℕ} → (text : List ℕ) (m : Option Message)
+    → IsReadTo bytes sent there count rest → FirstLine rest line behind → there ≡ true → line ≡ codes "send 1 " ++ text → IsReceived text m
+    → IsReadTo bytes (sent ++ text ∷ []) (not (is_close m)) (count + 1) behind
+sends {line = line} text m before c now e is =
+    more (Sends m) (text ∷ []) (not (is_close m)) before c
+    (record { text = text; unbroken = behind_words line text c.unbroken e; spelled = e; received = is }) (is, tt)
+    (ap (λ t. there_after t (Sends m ∷ [])) now)
+
+stops : {bytes : List ℕ} {sent : List (List ℕ)} {there : Bool} {count : ℕ} {rest line behind : List ℕ} → IsReadTo bytes sent there count rest
+    → FirstLine rest line behind → ((x : Said) → IsLine line x → there_after there (x ∷ []) ≡ None) → FaultAt bytes (count + 1)
+stops {bytes = bytes} {there = there} {rest = rest} {line = line} {behind = behind} before c none =
+    let from = said_from false there before.said before.now in
+    rw add-one (
+      before.short,
+      record {
+        before = before.lines;
+        script = from.0;
+        say = record { say = subst (AllZip IsLine before.lines) from.1 before.say; turns = from.2 };
+        count = sym before.counted;
+        line = line;
+        rest = rest;
+        text = some_rest bytes before.lines rest before.text (let s = shorter c in omega arith);
+        after = behind;
+        next = c;
+        stops = cant_follow before.lines line before.said there before.say before.now none;
+      },
+    )
+
+-- nobody is there, and the line isn't the one by which a visitor joins
+no_joining : (line : List ℕ) (there : Bool) → there ≡ false → (line ≡ join_line → ⊥) → (x : Said) → IsLine line x → there_after there (x ∷ []) ≡ None
+no_joining line there now other Joins h = absurd (other h)
+no_joining line there now other (Sends m) h = ap (λ t. there_after t (Sends m ∷ [])) now
+
+pub not_joined : {bytes : List ℕ} {sent : List (List ℕ)} {there : Bool} {count : ℕ} {rest line behind : List ℕ} → IsReadTo bytes sent there count rest
+    → FirstLine rest line behind → there ≡ false → (line ≡ join_line → ⊥) → FaultAt bytes (count + 1)
+not_joined {there = there} {line = line} before c now other = stops before c (no_joining line there now other)
+
+-- a visitor is there, and the line sends nothing
+no_sending : (line : List ℕ) (there : Bool) → there ≡ true → ((text : List ℕ) → line ≡ codes "send 1 " ++ text → ⊥)
+    → (x : Said) → IsLine line x → there_after there (x ∷ []) ≡ None
+no_sending line there now other Joins h = ap (λ t. there_after t (Joins ∷ [])) now
+no_sending line there now other (Sends m) h = absurd (other h.text h.spelled)
+
+pub not_sent : {bytes : List ℕ} {sent : List (List ℕ)} {there : Bool} {count : ℕ} {rest line behind : List ℕ} → IsReadTo bytes sent there count rest
+    → FirstLine rest line behind → there ≡ true → ((text : List ℕ) → line ≡ codes "send 1 " ++ text → ⊥) → FaultAt bytes (count + 1)
+not_sent {there = there} {line = line} before c now other = stops before c (no_sending line there now other)
+
+-- ---- all lines
+
+empty : (bs : List ℕ) → length bs ≡ 0 → bs ≡ []
+empty [] h = refl
+empty (b ∷ bs) h = absurd (omega arith)
+
+pub whole : (bytes : List ℕ) (sent : List (List ℕ)) (there : Bool) (count : ℕ) (rest : List ℕ) → IsReadTo bytes sent there count rest → length rest ≡ 0
+    → (script : Script) × IsScript bytes script × AreSent sent script
+whole bytes sent there count rest before none =
+    let from = said_from false there before.said before.now in (
+      from.0,
+      record {
+        lines = before.lines;
+        say = record { say = subst (AllZip IsLine before.lines) from.1 before.say; turns = from.2 };
+        text = elim before.text [
+          | inl e ↦ inl (e ∙ ap (λ (r : List ℕ). text_of before.lines ++ r) (empty rest none) ∙ append-nil _)
+          | inr e ↦ inr e.0
+        ];
+        short = before.short;
+      },
+      record { received = subst (AreReceived sent) (ap sent_by from.1 ∙ sent_by_all from.0) before.texts; turns = from.2 },
+    )
+
+-- ---- what tests of lines say
+
+pub is_join : (line : List ℕ) → true ≡ bytes_eq line join_line → line ≡ join_line
+is_join line h = (bytes_eq-Decides line join_line).0 (sym h)
+
+pub is_other : (line : List ℕ) → false ≡ bytes_eq line join_line → line ≡ join_line → ⊥
+is_other line h e = let same = (bytes_eq-Decides line join_line).1 e in absurd (cc)
 
 -- ---- bytes with no line end
 

@@ -1,25 +1,26 @@
-// Visits that are played.
-ghost use Rattle.std.specs.Prelude.{◌≡◌, ◌+◌, ◌≤◌, ◌++◌, ◌∷◌, [], List, IfErr, OnErr, OnOk, map};
+// Scripts that are played.
+ghost use Rattle.std.specs.Prelude.{◌≡◌, ◌+◌, ◌≤◌, ◌++◌, ◌∷◌, [], IfErr, OnErr, OnOk, flat_map, map};
 ghost use Rattle.link_io.specs.Outside.{Rose, Took, TookLess};
 ghost use Rattle.script_run.specs.Cut.{IsCut};
 ghost use Rattle.script_run.specs.Prefix.{WrotePrefix};
-ghost use Rattle.visit_meaning.specs.Answer.{Before, Message, cost_of_parts, frames_in, parts_from, solo, work};
+ghost use Rattle.script_run.specs.Script.{AreSent};
+ghost use Rattle.program_meaning.specs.Scripts.{Script, script_parts, script_work};
+ghost use Rattle.visit_meaning.specs.Answer.{cost_of_parts, frames_in, solo};
 ghost use Rattle.frame_meaning.specs.FrameText.{frame_text, labelled};
-ghost use Rattle.visit_meaning.specs.Messages.{AreMessages};
 ghost use Rattle.visit_meaning.specs.Runnable.{Runnable};
 ghost use Rattle.py_tree.specs.View.{view_cells};
 
 use crate::frame_line::set_line;
 use cell_graph::Notebook;
 use frames::Frame;
-use kernel::{Kernel, Stepped};
+use kernel::{Delivered, Kernel, Stepped};
 use link_io::{Failed, Sink, write_all};
 use py_eval::Steps;
 use py_value::Memory;
 use std::alloc::Global;
 use std::sync::ledger::Ledger;
 
-/// Why a visit isn't written to its end.
+/// Why what is played isn't written to its end.
 #[derive(Clone, Copy, Debug, PartialEq, Eq)]
 pub enum PlayFault {
     /// The sink failed.
@@ -105,53 +106,55 @@ fn drain<'n, O: Sink, L: Ledger>(
     Ok(())
 }
 
-/// Plays the messages of one visitor from the beginning of a visit. A frame goes out as soon as a step has given it, on a line of its own
-/// behind `label`; all frames of an answer are written before the next message is taken. Each run of a cell has this budget of steps; the
-/// steps of all runs are counted.
+/// Plays what is sent by one visitor after the other, each from the beginning of a visit to a close message, or to the end of all. A frame goes
+/// out as soon as a step has given it, on a line of its own behind `label`; all frames of an answer are written before the next text is taken.
+/// Each run of a cell has this budget of steps; the steps of all runs are counted.
 pub fn play<O: Sink, L: Ledger>(
     alloc: Global,
     notebook: &Notebook,
     budget: u64,
     label: &[u8],
-    messages: &[&[u8]],
+    sent: &[&[u8]],
     out: &mut O,
     steps: &mut Steps<L>,
 ) -> Result<(), PlayFault>
     requires { Runnable (view_cells notebook.now) }
 
-    // These are the frames of a visitor alone who sends these messages.
+    // These are the frames of visitors, each alone, who send these texts.
     ensures written { OnOk result
-        ((ms : List Message) → AreMessages (map (λ m. m.now) messages.now) ms
+        ((script : Script) → AreSent (map (λ text. text.now) sent.now) script
         → Took (O.taken out.old) (O.taken out.new)
-        (labelled label.now (solo (view_cells notebook.now) budget ms))) }
+        (labelled label.now (flat_map (solo (view_cells notebook.now) budget) script))) }
     ensures steps { OnOk result
-        ((ms : List Message) → AreMessages (map (λ m. m.now) messages.now) ms
-        → steps.new ≡ steps.old + work (view_cells notebook.now) budget ms) }
+        ((script : Script) → AreSent (map (λ text. text.now) sent.now) script
+        → steps.new ≡ steps.old + script_work (view_cells notebook.now) budget script) }
 
     // A write that fails cuts the line of a frame: the lines of the frames before it were written, and of its own a beginning, but not all. The
     // steps up to this frame are counted, and no later ones.
     ensures cut { IfErr result
-        (λ fault. fault ≡ PlayFault.WriteFault → (ms : List Message)
-        → AreMessages (map (λ m. m.now) messages.now) ms
-        → IsCut label.now (parts_from (view_cells notebook.now) budget Before ms) (O.taken out.old)
+        (λ fault. fault ≡ PlayFault.WriteFault → (script : Script)
+        → AreSent (map (λ text. text.now) sent.now) script
+        → IsCut label.now (script_parts (view_cells notebook.now) budget script) (O.taken out.old)
         (O.taken out.new) steps.old steps.new) }
 
     // Where memory is wanting, whole lines were written, those of a prefix of the frames, and no more steps are counted than theirs and those
     // of one cell more.
     ensures prefix { IfErr result
-        (λ fault. fault ≡ PlayFault.Memory → (ms : List Message)
-        → AreMessages (map (λ m. m.now) messages.now) ms
-        → WrotePrefix label.now (parts_from (view_cells notebook.now) budget Before ms) (O.taken out.old)
-        (O.taken out.new) steps.old steps.new) }
+        (λ fault. fault ≡ PlayFault.Memory → (script : Script)
+        → AreSent (map (λ text. text.now) sent.now) script
+        → WrotePrefix label.now (script_parts (view_cells notebook.now) budget script)
+        (O.taken out.old) (O.taken out.new) steps.old steps.new) }
     ensures later { O.faults out.old ≤ O.faults out.new }
     ensures failed { IfErr result
         (λ fault. fault ≡ PlayFault.WriteFault → Rose (O.faults out.old) (O.faults out.new)) }
 {
     let mut kernel = Kernel::open(alloc, notebook, budget)?;
     let mut line = Vec::new(alloc);
-    for message in messages {
-        let _taken = kernel.deliver(alloc, message)?;
-        drain(alloc, &mut kernel, label, &mut line, out, steps)?;
+    for text in sent {
+        match kernel.deliver(alloc, text)? {
+            Delivered::Closed => kernel = Kernel::open(alloc, notebook, budget)?,
+            _ => drain(alloc, &mut kernel, label, &mut line, out, steps)?,
+        }
     }
     Ok(())
 }

@@ -1,12 +1,14 @@
 // Scripts.
-ghost use Rattle.std.specs.Prelude.{◌<◌, length, IfErr, IfOk, MatchOption};
-ghost use Rattle.visit_meaning.specs.Answer.{Message};
-ghost use Rattle.visit_meaning.specs.Messages.{IsMessage};
-ghost use Rattle.program_meaning.specs.Scripts.{FirstLine, IsSend};
+ghost use Rattle.std.specs.Prelude.{◌≡◌, ◌<◌, ◌++◌, codes, length, IfErr, IfOk, MatchOption, Option};
+ghost use Rattle.messages.specs.declared.message.Message.{Message};
+ghost use Rattle.message_meaning.specs.Messages.{IsReceived};
+ghost use Rattle.program_meaning.specs.Scripts.{FirstLine, is_close};
 ghost use Rattle.script_run.specs.Script.{IsFault, IsRead};
 
-use kernel::read_text;
+use message_json::{MessageFault, read_message};
+use messages::Message;
 use py_tree::{BYTE_LIMIT, whole_line};
+use py_value::Memory;
 use std::alloc::Global;
 
 /// Why bytes are no script.
@@ -18,14 +20,25 @@ pub enum ScriptFault {
     Memory,
 }
 
-// The line by which the visitor joins.
+impl From<Memory> for ScriptFault {
+    ghost use Rattle.std.specs.Prelude.{◌≡◌};
+    ghost use Rattle.script_run.specs.declared.script.ScriptFault.TheVariants as fault;
+
+    ghost from_gives = { λ why f. f ≡ fault.Memory };
+
+    fn from(_: Memory) -> ScriptFault {
+        ScriptFault::Memory
+    }
+}
+
+// The line by which a visitor joins.
 const JOIN_LINE: &[u8] = b"join 1";
 
-// What stands before the text of a message.
+// What stands before a text that is sent.
 const SEND_WORDS: &[u8] = b"send 1 ";
 
-/// The messages that the visitor sends by the script of which these bytes are the text: nothing, or a line `join 1` and then lines
-/// `send 1 MESSAGE`. The last line may lack its line feed.
+/// The texts that are sent by the script of which these bytes are the text: for each visitor a line `join 1` and then lines `send 1 TEXT`, up to
+/// a close message or the end. The last line may lack its line feed.
 pub fn read_script(alloc: Global, bytes: &[u8]) -> Result<Vec<&[u8]>, ScriptFault>
     ensures read { IfOk result (λ sent. IsRead bytes.now sent.items) }
     ensures refused { IfErr result (λ fault. IsFault bytes.now fault) }
@@ -34,22 +47,24 @@ pub fn read_script(alloc: Global, bytes: &[u8]) -> Result<Vec<&[u8]>, ScriptFaul
         return Err(ScriptFault::Line { line: 0 });
     }
     let mut sent = Vec::new(alloc);
-    if bytes.is_empty() {
-        return Ok(sent);
-    }
-    let (join, mut rest) = first_line(bytes);
-    if join != JOIN_LINE {
-        return Err(ScriptFault::Line { line: 1 });
-    }
-    let mut count = 1;
+    let mut there = false;
+    let mut count = 0;
+    let mut rest = bytes;
     while !rest.is_empty() {
         let (line, behind) = first_line(rest);
         count += 1;
-        let Some(text) = sent_text(line) else {
+        if there {
+            let Some(text) = line.strip_prefix(SEND_WORDS) else {
+                return Err(ScriptFault::Line { line: count });
+            };
+            there = !closes(alloc, text)?;
+            if sent.push(text).is_err() {
+                return Err(ScriptFault::Memory);
+            }
+        } else if line == JOIN_LINE {
+            there = true;
+        } else {
             return Err(ScriptFault::Line { line: count });
-        };
-        if sent.push(text).is_err() {
-            return Err(ScriptFault::Memory);
         }
         rest = behind;
     }
@@ -67,14 +82,14 @@ fn first_line(bytes: &[u8]) -> (&[u8], &[u8])
     }
 }
 
-// The text of the message that the line sends; none where it sends none.
-fn sent_text(line: &[u8]) -> Option<&[u8]>
-    ensures { MatchOption result ((m : Message) → IsSend line.now m → ⊥)
-        (λ text. (m : Message) × IsSend line.now m × IsMessage text.now m) }
+// Whether the text is a close message.
+fn closes(alloc: Global, text: &[u8]) -> Result<bool, Memory>
+    ensures { IfOk result
+        (λ answer. (m : Option Message) × IsReceived text.now m × (answer ≡ is_close m)) }
 {
-    let text = line.strip_prefix(SEND_WORDS)?;
-    match read_text(text) {
-        Some(_) => Some(text),
-        None => None,
+    match read_message(alloc, text) {
+        Ok(message) => Ok(matches!(message, Message::Close)),
+        Err(MessageFault::NotMessage) => Ok(false),
+        Err(MessageFault::Memory) => Err(Memory),
     }
 }

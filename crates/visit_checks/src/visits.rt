@@ -34,6 +34,7 @@ if __name__ == \"__main__\":
 ";
 
 const OPEN: &[u8] = b"{\"open\":{}}";
+const CLOSE: &[u8] = b"{\"close\":{}}";
 
 // A call of a kernel.
 #[derive(Clone, Copy)]
@@ -64,6 +65,7 @@ pub(crate) fn slider(alloc: Global) -> Option<Notebook>
 fn delivered_line(alloc: Global, delivered: Delivered) -> Result<String, AllocError> {
     match delivered {
         Delivered::Taken => String::from_str(alloc, "taken\n"),
+        Delivered::Closed => String::from_str(alloc, "closed\n"),
         Delivered::Busy { pending } => format!(in alloc; "busy {pending}\n"),
     }
 }
@@ -180,20 +182,29 @@ const CALLS: &[Call<'static>] = &[
     Deliver(b"{\"set\":{\"s\":11}}"),
     Step,
     Step,
-    Deliver(b"{\"set\":{\"t\":4}}"),
+    Deliver(b"{\"set\":{\"s\":7,\"t\":4}}"),
+    Step,
+    Deliver(CLOSE),
+    Step,
+    Deliver(b"{\"set\":{}}"),
     Step,
     Deliver(b"close"),
     Step,
-    Deliver(b"{\"open\":{}}\n"),
     Step,
-    Step,
-    Deliver(OPEN),
+    Deliver(b"{\"open\": {}}\n"),
     Step,
     Step,
     Step,
     Present("s"),
     Newest(2),
     Newest(7),
+    Deliver(CLOSE),
+    Step,
+    Present("s"),
+    Newest(2),
+    Deliver(OPEN),
+    Deliver(b"close"),
+    Step,
     Pending,
 ];
 
@@ -225,6 +236,8 @@ taken
 busy 1
 {\"done\":0}
 taken
+{\"done\":0}
+taken
 {\"refused\":\"message\"}
 {\"done\":0}
 taken
@@ -234,6 +247,13 @@ idle
 present 4
 newest 5
 newest none
+closed
+idle
+present none
+newest 5
+closed
+closed
+idle
 pending 0
 ";
 

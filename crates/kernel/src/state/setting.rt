@@ -83,11 +83,7 @@ fn value_sent(alloc: Global, env: &Env, item: &SetItem) -> Result<Option<Value>,
 
 /// The values that elements in being make of what is sent, by their names. Nothing is set yet. It is refused at the first name that is no
 /// element's, and else at the first whose element doesn't admit what is sent.
-pub fn admitted(
-    alloc: Global,
-    env: &Env,
-    items: SetItems,
-) -> Result<Vec<(Text, Value)>, SetFault>
+pub fn admitted(alloc: Global, env: &Env, items: SetItems) -> Result<Vec<(Text, Value)>, SetFault>
     ensures ok { IfOk result (λ sets. AreAdmitted env.now items sets.items) }
     ensures fault { IfErr result (λ f. IsWhy env.now items f) }
 {
@@ -115,10 +111,7 @@ fn set_element(alloc: Global, env: &mut Env, name: &Text, value: &Value) -> Resu
 {
     if let Some(Binding::Plain(Value::Element(mut element))) = env.remove(name.items()) {
         element.set_present(copy(alloc, value)?);
-        env.put(
-            name.copy(alloc)?,
-            Binding::Plain(Value::Element(element)),
-        )?;
+        env.put(name.copy(alloc)?, Binding::Plain(Value::Element(element)))?;
     }
     Ok(())
 }

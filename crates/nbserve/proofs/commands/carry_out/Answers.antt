@@ -1,11 +1,11 @@
 -- The command of the words is carried out, or what stops it stops the run.
-use Rattle.std.proofs.Common.{◌∙◌, sym, ap, subst, ℕ, List, [], ◌∷◌, map}
+use Rattle.std.proofs.Common.{◌∙◌, inl, refl, sym, ap, subst, ℕ, List, map}
 use Rattle.std.specs.Prelude.{Some, string_bytes}
 use Rattle.std.proofs.lemmas.Result.{IfErr-weaker, IfOk-weaker}
 use Rattle.link_io.specs.Outside.{Rose}
-use Rattle.visit_meaning.specs.Answer.{Open}
 use Rattle.command_meaning.specs.Commands.{notebook_of}
 use Rattle.program_meaning.specs.Program.{IsLoaded}
+use Rattle.program_meaning.proofs.SentTexts as texts
 use Rattle.thin_runs.proofs.ThinRuns.{thin_runnable}
 use Rattle.py_tree.specs.Trees.{Cell}
 use Rattle.py_tree.specs.View.{view_cells}
@@ -13,7 +13,7 @@ use Rattle.nbserve.proofs.Execution.{same_played, unloaded_stops, unplayed_stops
 use Rattle.kernel.proofs.Results.{if_err_of}
 use Rattle.cli_words.specs.Command.{asked}
 use Rattle.nbserve.specs.Execution as carried
-use Rattle.nbserve.specs.Execution.{Carried, IsPlayed}
+use Rattle.nbserve.specs.Execution.{Carried, IsPlayed, opening}
 use Rattle.nbserve.specs.CommandFault.{IsStopped, IsUnloaded, IsUnplayed}
 use Rattle.nbserve.specs.declared.command_fault.CommandFault.{CommandFault}
 use Rattle.nbserve.proofs.commands.carry_out.Goals as goal
@@ -41,7 +41,7 @@ returns-in-Once-clause-carried g c =
     carried.opened file nb (sym c.in-Some.ensures ∙ ap (λ command. Some (asked command)) c.in-Once.is)
     (subst (λ name. IsLoaded (g.F.Files.holds c.args.files.now) name nb) (c.notebook.ensures ∙ ap (λ command. notebook_of (asked command)) c.in-Once.is)
     c.in_ok-notebook.ensures.loaded)
-    (c.perform.ensures.done (Open ∷ []) (c.as_bytes.ensures.value, tt))
+    (c.perform.ensures.done opening (record { received = (texts.opening, tt); turns = inl refl }))
 
 pub returns-clause-carried : goal.returns-clause-carried
 returns-clause-carried g c =

@@ -7,13 +7,13 @@ use Rattle.nbserve.specs.Execution as done
 use Rattle.nbserve.proofs.commands.perform.Goals as goal
 
 pub returns-in-Ok-clause-done : goal.returns-in-Ok-clause-done
-returns-in-Ok-clause-done g c = λ ms are.
-    done_after (view_cells c.args.notebook.now) ms c.args.label.now c.args.last.now c.end_with.result _ _ _ _ _ _ _ _
-    (c.in-Ok.ensures.written ms are) (c.in-Ok.ensures.steps ms are) c.in-Ok.ensures.later c.end_with.ensures.ended
+returns-in-Ok-clause-done g c = λ stays are.
+    done_after (view_cells c.args.notebook.now) stays c.args.label.now c.args.last.now c.end_with.result _ _ _ _ _ _ _ _
+    (c.in-Ok.ensures.written stays are) (c.in-Ok.ensures.steps stays are) c.in-Ok.ensures.later c.end_with.ensures.ended
 
 pub returns-in-Err-WriteFault-clause-done : goal.returns-in-Err-WriteFault-clause-done
-returns-in-Err-WriteFault-clause-done g c = λ ms are.
-    done.cut refl (c.in-Err-WriteFault.ensures.failed c.in-Err-WriteFault.field-0-is) (cut.in_frame (c.in-Err-WriteFault.ensures.cut c.in-Err-WriteFault.field-0-is ms are))
+returns-in-Err-WriteFault-clause-done g c = λ stays are.
+    done.cut refl (c.in-Err-WriteFault.ensures.failed c.in-Err-WriteFault.field-0-is) (cut.in_frame (c.in-Err-WriteFault.ensures.cut c.in-Err-WriteFault.field-0-is stays are))
 
 pub returns-in-Err-Memory-clause-done : goal.returns-in-Err-Memory-clause-done
-returns-in-Err-Memory-clause-done g c = λ ms are. done.prefix refl (c.in-Err-Memory.ensures.prefix c.in-Err-Memory.field-0-is ms are)
+returns-in-Err-Memory-clause-done g c = λ stays are. done.prefix refl (c.in-Err-Memory.ensures.prefix c.in-Err-Memory.field-0-is stays are)

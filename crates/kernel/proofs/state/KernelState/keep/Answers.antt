@@ -1,5 +1,5 @@
 -- The cells that run again are those that the answer has, from the bindings and the present values that it has.
-use Rattle.std.proofs.Common.{◌≡◌, ◌∙◌, ap, map}
+use Rattle.std.proofs.Common.{◌∙◌, ap, map}
 use Rattle.std.specs.Prelude.{flat_map, fold}
 use Rattle.graph_meaning.specs.Graph.{elements_of}
 use Rattle.graph_meaning.specs.Reruns.{rerun}
