@@ -1,14 +1,14 @@
 -- Commands that are carried out, step by step.
-use Rattle.std.proofs.Common.{◌≡◌, ◌∙◌, refl, sym, ap, subst, inl, inr, ℕ, ◌+◌, ◌≤◌, List, [], ◌++◌, append-nil, arith}
+use Rattle.std.proofs.Common.{◌≡◌, ◌∙◌, ap, refl, sym, subst, inl, inr, ℕ, ◌+◌, ◌≤◌, List, [], ◌++◌, append-nil, arith}
 use Rattle.std.specs.Prelude.{Option, Some, IfSome, codes, flat_map}
 use Rattle.link_io.specs.Outside.{Rose, Took}
 use Rattle.link_io.proofs.Taken.{rose_since, took_both}
-use Rattle.visit_meaning.specs.Answer.{Part, cost_of_parts, frames_in, solo}
+use Rattle.visit_meaning.specs.Answer.{Part, solo}
 use Rattle.frame_meaning.specs.FrameText.{labelled}
 use Rattle.program_meaning.specs.Program as program
 use Rattle.command_meaning.specs.Commands.{Command, Play, command_of, notebook_of}
 use Rattle.program_meaning.specs.Program.{Comes, AreRead, FailsFirst, IsLoaded, Refusal, read_of, refusal_text, usual_budget}
-use Rattle.program_meaning.specs.Scripts.{FaultAt, Script, fault_text, script_parts, script_work}
+use Rattle.program_meaning.specs.Scripts.{Script, FaultAt, fault_text, script_parts, script_work}
 use Rattle.py_tree.specs.Trees.{Cell}
 use Rattle.nbserve.specs.Execution as done
 use Rattle.nbserve.specs.Execution.{IsDone, IsPlayed}
@@ -28,13 +28,14 @@ pub done_after : (nb : List Cell) (stays : Script) (label last : List ℕ) (resu
 done_after nb stays label last result before between now a b d count count_after first steps le (wrote.whole e took) =
     done.whole e (took_both before between now (labelled label (flat_map (solo nb usual_budget) stays)) last first took) steps
 done_after nb stays label last result before between now a b d count count_after first steps le (wrote.cut e why part) =
+    let written = labelled label (flat_map (solo nb usual_budget) stays) in
     done.cut e (rose_since a b d le why)
     (cut.in_last part.0 part.1 part.2 part.3 (steps ∙ ap (λ n. count + n) (sym (script_costs nb usual_budget stays)))
-    (subst (λ fs. Took before now (labelled label fs ++ part.0)) (sym (script_frames nb usual_budget stays))
-    (took_both before between now (labelled label (flat_map (solo nb usual_budget) stays)) part.0 first part.4)))
+    (subst (λ frames. Took before now (labelled label frames ++ part.0)) (sym (script_frames nb usual_budget stays))
+    (took_both before between now written part.0 first part.4)))
 done_after nb stays label last result before between now a b d count count_after first steps le (wrote.wanting e none) =
     let parts : List Part = script_parts nb usual_budget stays in
-    let text = labelled label (flat_map (solo nb usual_budget) stays) in
+    let written = labelled label (flat_map (solo nb usual_budget) stays) in
     let costs = script_costs nb usual_budget stays in
     done.prefix e (record {
       written = parts;
@@ -42,8 +43,8 @@ done_after nb stays label last result before between now a b d count count_after
       are = sym (append-nil parts);
       least = omega (arith, steps, costs);
       most = omega (arith, steps, costs);
-      took = subst (λ fs. Took before now (labelled label fs)) (sym (script_frames nb usual_budget stays))
-          (subst (Took before now) (append-nil text) (took_both before between now text [] first none));
+      took = subst (λ frames. Took before now (labelled label frames)) (sym (script_frames nb usual_budget stays))
+          (subst (Took before now) (append-nil written) (took_both before between now written [] first none));
     })
 
 -- what tells why stops the run
