@@ -125,7 +125,7 @@ fn opener(alloc: Global, closes: bool) -> Result<MemLink, AllocError> {
     let mut messages = Vec::new(alloc);
     messages.push(Some(Vec::from_slice(alloc, b"{\"open\":{}}")?))?;
     if closes {
-        messages.push(Some(Vec::from_slice(alloc, b"{\"close\":{}}")?))?;
+        messages.push(Some(Vec::from_slice(alloc, b" {\"close\": {}}\n")?))?;
     }
     Ok(MemLink::new(alloc, messages))
 }

@@ -34,6 +34,7 @@ if __name__ == \"__main__\":
 ";
 
 const OPEN: &[u8] = b"{\"open\":{}}";
+
 const CLOSE: &[u8] = b"{\"close\":{}}";
 
 // A call of a kernel.
