@@ -60,6 +60,11 @@ class Sliders:
         return [cell(1), self.total(), done(2)] if name == "items" else [self.total(), done(1)]
 
 
+    def after_both(self, items, shipping):
+        self.values = {"items": items, "shipping": shipping}
+        return [cell(1), self.total(), done(2)]
+
+
 def masked(payload, key):
     repeated = (key * (len(payload) // 4 + 1))[: len(payload)]
     return (int.from_bytes(payload, "big") ^ int.from_bytes(repeated, "big")).to_bytes(len(payload), "big")
