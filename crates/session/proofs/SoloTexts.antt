@@ -118,9 +118,9 @@ others_received [] [] are others = tt
 others_received [] (k ∷ messages) are others = absurd are
 others_received (m ∷ items) [] are others = absurd are
 others_received (m ∷ items) (k ∷ messages) are others = (
-      (λ same. All-head IsNoClose m items others (subst (IsReceived (bytes_of m)) same are.0)),
-      others_received items messages are.1 (All-tail IsNoClose m items others),
-    )
+  (λ same. All-head IsNoClose m items others (subst (IsReceived (bytes_of m)) same are.0)),
+  others_received items messages are.1 (All-tail IsNoClose m items others),
+)
 
 -- From the beginning on, behind messages of which none is the close message, it is a close message that ends a visit.
 pub last_closes : (nb : List CellCode) (budget : ℕ) (items : List Item) (messages : List (Option Message)) (mid now : Option Told)
