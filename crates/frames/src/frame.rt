@@ -17,8 +17,11 @@ pub enum Status {
 /// The type of an output.
 #[derive(Clone, Copy, Debug, PartialEq, Eq)]
 pub enum OutputKind {
+    /// The text of a value.
     Plain,
+    /// What `mo.md`, `mo.hstack` and their like make.
     Html,
+    /// An element.
     Element,
 }
 
@@ -57,7 +60,7 @@ pub enum Frame {
     BadMessage,
     /// The message can't come at this time.
     BadOrder,
-    /// There is no element of this name.
+    /// No element of this name is in being.
     NoElement(Text),
     /// The element of this name doesn't admit the value.
     NoValue(Text),

@@ -43,7 +43,7 @@ abbrev pub newest_after : List (Option CellFrame) → List Frame → List (Optio
 newest_after newest given = fold (λ kept f. with_frame f kept) newest given
 
 -- The frames that were given, and behind them those that are still to come, are those of a visitor alone who sends the messages that were
--- taken; the newest frame of each cell is the last one that was given of it; the state is the one to which these lead; and the steps that
+-- taken or closed the visit; the newest frame of each cell is the last one that was given of it; the state is the one to which these lead; and the steps that
 -- were counted, with those that the frames to come will cost, are all that the cells cost which run for them.
 pub record IsSolo (nb : List CellCode) (budget : ℕ) (sent : List (List ℕ)) (given : List Frame) (after : Visit) (count count_after : ℕ) : Type 0 where
   pub messages : List (Option Message)
@@ -58,7 +58,7 @@ abbrev pub parts_for : Visit → List (Option Message) → List Part
 parts_for v ms = v.pending ++ parts_from (view_cells v.nb) v.budget v.state ms
 
 -- From one visit to another: the parts that were given, and behind them those that are still to come, are the parts for the messages that
--- were taken; the steps that were counted are those of the parts that were given; the newest frame of each cell is the last one that was
+-- were taken or closed the visit; the steps that were counted are those of the parts that were given; the newest frame of each cell is the last one that was
 -- given of it, if there is one; and the state is the one to which the messages lead.
 pub record GoesOn (v : Visit) (sent : List (List ℕ)) (given : List Frame) (after : Visit) (count count_after : ℕ) : Type 0 where
   pub messages : List (Option Message)

@@ -48,7 +48,7 @@ pub record IsWhole (v : Visit) (ui : Map Value) : Type 0 where
   pub newest : (c : ℕ) → c < length v.nb → newest_in v.newest c ≡ find (λ (f : CellFrame). f.cell == c) (whole (view_cells v.nb) v.budget ui).frames
 
 -- What stands where memory wasn't wanting and no frame is to come: no cell has a frame before the opening, and from then on, while the visit
--- isn't closed, all are as when the whole notebook runs from nothing. A closed visit is as it was before (`closed`).
+-- isn't closed, all are as when the whole notebook runs from nothing. A closed visit is as it was when it was closed (`closed`).
 pub record Stands (v : Visit) : Type 0 where
   pub before : v.state ≡ Before → (c : ℕ) → newest_in v.newest c ≡ None
   pub on : (ui : Map Value) → v.state ≡ On ui → v.pending ≡ [] → IsWhole v ui

@@ -56,8 +56,8 @@ impl<'n> Kernel<'n> {
         })
     }
 
-    /// Takes a message of the visitor, whose answer is then to come, or is `Closed` where it is a close message or comes after one. It is
-    /// `Busy` where frames of an earlier answer are to come. Bytes that are no message are answered with that refusal.
+    /// Takes a message of the visitor, whose answer is then to come; of bytes that are no message it is that refusal. It is `Busy` while frames of an
+    /// earlier answer are to come, and else `Closed` where the bytes are a close message, and for all bytes behind one.
     pub fn deliver(&mut self, alloc: Global, bytes: &[u8]) -> Result<Delivered, Memory>
         ensures delivers { IfOk result
             (λ delivered. IsDelivery bytes.now self.old self.new delivered) }

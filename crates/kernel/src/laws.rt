@@ -9,8 +9,9 @@ ghost use Rattle.py_tree.specs.Trees.{Cell};
 ghost use Rattle.py_tree.specs.declared.tree.CellCode.{CellCode};
 
 /// Whatever calls of `deliver` and `step` that don't answer `Memory` follow one another from the beginning of a visit, the frames that were given
-/// and those that are still to come are exactly the frames of a visitor alone who sends the messages that were taken; the steps that were counted,
-/// with those of the frames to come, are exactly those of the cells that run for them; and newest frames and state are those to which these lead.
+/// and those that are still to come are exactly the frames of a visitor alone who sends the messages that were taken or closed the visit; the steps that
+/// were counted, with those of the frames to come, are exactly those of the cells that run for them; and newest frames and state are those to which
+/// these lead.
 pub fn every_visit()
     ensures solo { (nb : List CellCode) (budget : ℕ) (calls : List Call) (after : Visit)
         (count count_after : ℕ)

@@ -40,7 +40,7 @@ pub fn worked_values()
     ensures members { Sends (codes "{\"b\":1}") None }
 {}
 
-/// Whole numbers in their range, and other numbers, which no element admits.
+/// Whole numbers in their range; other numbers, which no element admits; and numbers past the range of a float, with which the bytes are no message.
 pub fn worked_numbers()
     ensures zero { Sends (codes "0") (Some (V.Int (pos 0))) }
     ensures below_zero { Sends (codes "-1") (Some (V.Int (neg_ℤ (pos 1)))) }

@@ -22,7 +22,8 @@ pub struct SetItem {
     pub value: Option<Value>,
 }
 
-/// The values that are sent, in the order of the bytes of their names, each of which stands once. Contracts see them as their list.
+/// The values that are sent. Those of a message that was read stand in the order of the bytes of their names, and each name once. Contracts see them as
+/// their list.
 #[derive(Debug, Drop)]
 pub struct SetItems {
     items: Vec<SetItem>,

@@ -117,7 +117,8 @@ present_after nb env ui sets =
 abbrev pub answer_with : List Cell → ℕ → Map Value → List ℕ → Answered
 answer_with nb budget ui cells = record { state = On ui; parts = counted (results_of nb budget ui cells) }
 
--- the first item of a name that is no element's, and the first whose element doesn't admit what is sent
+-- The first item of a name that is no element's, and the first whose element doesn't admit what is sent. The items of a message stand in the order
+-- of the bytes of their names.
 abbrev pub first_unknown : Env → List SetItem → Option SetItem
 first_unknown env items = find (λ (i : SetItem). is_none (element_in env i.name)) items
 
