@@ -10,7 +10,7 @@ use crate::positional::names_something;
 pub enum Command<'a> {
     /// To open the notebook of a file.
     Once { file: &'a str },
-    /// To play a script of a visitor on the notebook of a file.
+    /// To play a script of visitors on the notebook of a file.
     Play { file: &'a str, script: &'a str },
 }
 

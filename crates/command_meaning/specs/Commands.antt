@@ -2,7 +2,7 @@
 use Rattle.std.specs.Prelude.{ℕ, Bool, false, cond, not, ◌&&◌, ◌==◌, List, [], ◌∷◌, codes, Option, Some, None}
 use Rattle.std.specs.Str.{bytes_eq}
 
--- the command that the words ask for: to open a notebook, or to play a script of a visitor of one
+-- the command that the words ask for: to open a notebook, or to play a script of visitors of one
 pub data Command : Type 0 where
   Once : (file : List ℕ) → Command
   Play : (file script : List ℕ) → Command

@@ -1,4 +1,4 @@
-//! The program that opens a notebook, replays a visitor of one, or serves it to visitors.
+//! The program that opens a notebook, replays visitors of one, or serves it to visitors.
 #![tactic(auto)]
 
 ghost use Rattle.std.specs.Prelude.{◌≡◌, ◌<◌, map, string_bytes};

@@ -1,4 +1,4 @@
-//! Scripts of a visitor, and their playing.
+//! Scripts of visitors, and their playing.
 #![tactic(auto)]
 
 mod frame_line;
