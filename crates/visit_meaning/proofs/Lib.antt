@@ -24,5 +24,7 @@ pub mod Standing
 pub mod AfterCells
 -- For those who serve visits.
 pub mod Endings
+-- For `nothing_behind_a_close`.
+pub mod Closing
 -- For `elements_in_being`.
 pub mod PresentValues

@@ -1,5 +1,5 @@
 // Laws, proved from the definitions.
-ghost use Rattle.std.specs.Prelude.{◌≡◌, ◌↔◌, ℕ, true, List, [], Option, Some};
+ghost use Rattle.std.specs.Prelude.{◌≡◌, ◌↔◌, ◌∷◌, ◌++◌, ℕ, true, List, [], Option, Some};
 ghost use Rattle.frames.specs.declared.frame.CellFrame.{CellFrame};
 ghost use Rattle.graph_meaning.specs.Graph.{elements_of, order, NoneDoubled, NoneCyclic};
 ghost use Rattle.graph_meaning.specs.Reruns.{rerun};
@@ -11,9 +11,9 @@ ghost use Rattle.py_value.specs.View.{value_of as value_in};
 ghost use Rattle.py_value.specs.declared.types.Data.{Data};
 ghost use Rattle.py_value.specs.declared.types.Value.{Value};
 ghost use Rattle.messages.specs.declared.message.Message.{Message};
-ghost use Rattle.messages.specs.declared.message.Message.TheVariants.{Set};
+ghost use Rattle.messages.specs.declared.message.Message.TheVariants.{Close, Set};
 ghost use Rattle.messages.specs.declared.message.SetItem.{SetItem};
-ghost use Rattle.visit_meaning.specs.Answer.{Before, On, answer, counted, element_in, names_of, present_after, state_after, value_set, values_sent};
+ghost use Rattle.visit_meaning.specs.Answer.{State, Before, On, Ended, answer, counted, element_in, names_of, parts_from, present_after, state_after, value_set, values_sent};
 ghost use Rattle.visit_meaning.specs.Rerun.{AllSent, IsAfresh, Kept, after_cells, given_by, nothing_bound, with_values};
 ghost use Rattle.visit_meaning.specs.Runnable.{Runnable};
 ghost use Rattle.visit_meaning.specs.Whole.{ended_ok, whole};
@@ -63,4 +63,12 @@ pub fn elements_in_being()
         → state_after nb budget Before ms ≡ On ui → (x : Name) (v : Value) → look_up x ui ≡ Some v
         → (e : ElementData) × (d : Data) × (element_in (whole nb budget ui).env x ≡ Some e)
         × (value_set (whole nb budget ui).env (x, v) ≡ Some d) × (v ≡ value_in d) }
+{}
+
+/// Behind a close message nothing is answered, from any state on: all messages give the frames and the steps of those before it, and the visit has ended.
+pub fn nothing_behind_a_close()
+    ensures parts { (nb : List Cell) (budget : ℕ) (state : State) (ms more : List (Option Message))
+        → parts_from nb budget state (ms ++ Some Close ∷ more) ≡ parts_from nb budget state ms }
+    ensures ended { (nb : List Cell) (budget : ℕ) (state : State) (ms more : List (Option Message))
+        → state_after nb budget state (ms ++ Some Close ∷ more) ≡ Ended }
 {}
