@@ -4,3 +4,5 @@ pub mod ScriptTexts
 -- For `worked_answers` and `worked_scripts`.
 pub mod SentTexts
 pub mod SliderAnswers
+-- For `worked_sets`.
+pub mod SetAnswers

@@ -21,17 +21,21 @@ use Rattle.run_meaning.specs.declared.binding.Binding.TheVariants.{Plain, Module
 use Rattle.program_meaning.specs.Program.{usual_budget}
 use Rattle.program_meaning.specs.Samples.{s_at_four, sets_s, with_slider}
 use Rattle.run_meaning.specs.Spending.{pay, show}
+use Rattle.frames.specs.declared.frame.CellFrame.{CellFrame}
 use Rattle.frames.specs.declared.frame.Frame.TheVariants as frame
 use Rattle.frames.specs.declared.frame.Output.{Output}
 use Rattle.frames.specs.declared.frame.OutputKind.TheVariants as output
 use Rattle.frames.specs.declared.frame.Status.TheVariants as status
 use Rattle.py_value.proofs.Computes.{same_text, a_number, a_text}
 
--- a cell that ends ok, with what it shows and what it costs
-abbrev result : ℕ → Option Output → ℕ → Part
-result c shown n = record { frame = frame.Cell (record { cell = c; status = status.Ok; output = shown; console = []; error = None }); cost = n }
+-- the frame of a cell that ends ok, with what it shows, and its part with what it costs
+abbrev pub ok : ℕ → Option Output → CellFrame
+ok c shown = record { cell = c; status = status.Ok; output = shown; console = []; error = None }
 
-abbrev plain : List ℕ → Option Output
+abbrev pub result : ℕ → Option Output → ℕ → Part
+result c shown n = record { frame = frame.Cell (ok c shown); cost = n }
+
+abbrev pub plain : List ℕ → Option Output
 plain text = Some (record { text = text; kind = output.Plain })
 
 -- the parts of the three answers

@@ -1,3 +1,4 @@
 pub mod Program
 pub mod Samples
 pub mod Scripts
+pub mod SetSamples

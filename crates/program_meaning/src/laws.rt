@@ -1,10 +1,11 @@
 // Laws and worked examples, proved from the definitions.
-ghost use Rattle.std.specs.Prelude.{◌≡◌, ℕ, true, List, [], ◌∷◌, codes, map, pos, sum, Some, None};
+ghost use Rattle.std.specs.Prelude.{◌≡◌, ℕ, false, true, List, [], ◌∷◌, codes, map, pos, sum, Option, Some, None};
 ghost use Rattle.py_value.specs.ElementData.{ElementData};
 ghost use Rattle.py_value.specs.declared.types.Value.TheVariants as V;
 ghost use Rattle.py_value.specs.declared.error_kind.ErrorKind.TheVariants.{RuntimeError};
-ghost use Rattle.messages.specs.declared.message.Message.TheVariants.{Open, Close};
-ghost use Rattle.visit_meaning.specs.Answer.{Before, On, answer, cost_of_parts, frames_in, parts_from};
+ghost use Rattle.messages.specs.declared.message.Message.{Message};
+ghost use Rattle.messages.specs.declared.message.Message.TheVariants.{Open, Set, Close};
+ghost use Rattle.visit_meaning.specs.Answer.{Before, Ended, On, answer, cost_of_parts, frames_in, parts_from};
 ghost use Rattle.graph_meaning.specs.Graph.{order};
 ghost use Rattle.graph_meaning.specs.Reruns.{rerun};
 ghost use Rattle.visit_meaning.specs.Whole.{whole};
@@ -13,6 +14,7 @@ ghost use Rattle.form_meaning.specs.Thin.{are_thin, file_lines};
 ghost use Rattle.py_tree.specs.TextLines.{text_of};
 ghost use Rattle.program_meaning.specs.Program.{IsAccepted, Doubly, Cycle, FailsFirst, refusal_text, usual_budget, once_text};
 ghost use Rattle.program_meaning.specs.Samples.{three_cells, three_cells_file, three_cells_text, lone_name, lone_name_text, failing, failing_text, doubled, cyclic, diamond, too_great, too_great_text, four_steps, with_slider, with_slider_file, with_slider_text, with_slider_answers, with_slider_script, with_slider_played, two_visitors_script, two_visitors_played, s_at_four, sets_s, reads_s};
+ghost use Rattle.program_meaning.specs.SetSamples.{anew_lines, chained, kept, sent, six_lines, told, two_sliders};
 ghost use Rattle.program_meaning.specs.Scripts.{Script, IsScript, FaultAt, script_text};
 ghost use Rattle.run_meaning.specs.Spending.{Failed, Spent, runs, cost_of};
 ghost use Rattle.run_meaning.specs.declared.binding.Binding.TheVariants.{Plain};
@@ -73,6 +75,42 @@ pub fn worked_answers()
         (answer with_slider usual_budget (On []) (Some (sets_s 4))).parts ≡ 5 }
     ensures refused { cost_of_parts
         (answer with_slider usual_budget (On s_at_four) (Some (sets_s 11))).parts ≡ 0 }
+{}
+
+/// What a visitor is answered who sets several values at once, or none, and one who has closed: the state after it, the lines, and the
+/// steps of the cells that run. On a notebook with two sliders: both values are admitted; the second one isn't; the first one isn't and the
+/// second name is no element's, of which alone is told; nothing is set, in an open notebook and before the opening; the stay is closed; it
+/// has ended. On a notebook with a slider that begins where another one stands: when the other one is set, the cell that creates the slider
+/// runs again, and the value that was kept for the slider is dropped, and so is one that is sent for it in the same message. These cells
+/// haven't the thin form.
+pub fn worked_sets()
+    ensures both { told (answer two_sliders usual_budget (On [])
+        (Some (Set (sent (codes "s") 4 ∷ sent (codes "t") 2 ∷ []))))
+        ≡ record { state = On (kept (codes "s") 4 ∷ kept (codes "t") 2 ∷ []); lines = six_lines; steps = 6 } }
+    ensures unfit { told (answer two_sliders usual_budget (On [])
+        (Some (Set (sent (codes "s") 4 ∷ sent (codes "t") 9 ∷ []))))
+        ≡ record { state = On []; lines = codes "{\"name\":\"t\",\"refused\":\"value\"}\n{\"done\":0}\n"; steps = 0 } }
+    ensures unknown { told (answer two_sliders usual_budget (On [])
+        (Some (Set (sent (codes "s") 99 ∷ sent (codes "z") 1 ∷ []))))
+        ≡ record { state = On []; lines = codes "{\"name\":\"z\",\"refused\":\"element\"}\n{\"done\":0}\n"; steps = 0 } }
+    ensures nothing { told (answer two_sliders usual_budget
+        (On (kept (codes "s") 4 ∷ kept (codes "t") 2 ∷ [])) (Some (Set [])))
+        ≡ record { state = On (kept (codes "s") 4 ∷ kept (codes "t") 2 ∷ []); lines = codes "{\"done\":0}\n"; steps = 0 } }
+    ensures nothing_before { told (answer two_sliders usual_budget Before (Some (Set [])))
+        ≡ record { state = Before; lines = codes "{\"refused\":\"order\"}\n{\"done\":0}\n"; steps = 0 } }
+    ensures closes { told (answer two_sliders usual_budget (On []) (Some Close))
+        ≡ record { state = Ended; lines = []; steps = 0 } }
+    ensures closes_before { told (answer two_sliders usual_budget Before (Some Close))
+        ≡ record { state = Ended; lines = []; steps = 0 } }
+    ensures ended { (m : Option Message) → told (answer two_sliders usual_budget Ended m)
+        ≡ record { state = Ended; lines = []; steps = 0 } }
+    ensures anew { told (answer chained usual_budget (On (kept (codes "b") 7 ∷ []))
+        (Some (Set (sent (codes "a") 2 ∷ []))))
+        ≡ record { state = On (kept (codes "a") 2 ∷ []); lines = anew_lines; steps = 8 } }
+    ensures anew_beside { told (answer chained usual_budget (On (kept (codes "b") 7 ∷ []))
+        (Some (Set (sent (codes "a") 2 ∷ sent (codes "b") 7 ∷ []))))
+        ≡ record { state = On (kept (codes "a") 2 ∷ []); lines = anew_lines; steps = 8 } }
+    ensures not_thin { are_thin chained ≡ false }
 {}
 
 /// Bytes that are a script have no line that can't stand where it stands, and say one thing only; and other bytes have no two first such lines.
