@@ -8,7 +8,7 @@ import websockets
 
 sys.dont_write_bytecode = True
 sys.path.insert(0, str(pathlib.Path(__file__).resolve().parent.parent / "cases"))
-from visitor import Sliders, opening, refused, same, serving, setting, spelled
+from visitor import Sliders, closing, opening, refused, same, serving, setting
 
 SECONDS, REPORT = 10, "visitors {} closed {} links {} memory 0 many 0 doors {}\n"
 
@@ -57,12 +57,25 @@ async def four_at_once(port):
     await asyncio.gather(*(one_of_four(port, place) for place in range(4)))
 
 
+async def spelled_by_json(port):
+    """The messages of the README's visitor as Python's `json` spells them, and others with line ends and escapes."""
+    sliders = Sliders()
+    async with link(port) as came:
+        await came.send(json.dumps({"open": {}}))
+        same(sliders.opened(), await texts(came))
+        await came.send(json.dumps({"set": {"items": 7}}))
+        same(sliders.after("items", 7), await texts(came))
+        await came.send(json.dumps({"set": {"shipping": 9, "items": 6}}, indent=1))
+        same(sliders.after_both(6, 9), await texts(came))
+        await came.send(json.dumps({"set": {"\u00e9": 1, "items": 3}}))
+        same(refused("element", name="\u00e9"), await texts(came))
+
+
 async def messages(port):
     """Texts, a binary message, fragments and pings over one link."""
     sliders = Sliders()
     async with link(port) as came:
         same(sliders.opened(), await ask(came, opening()))
-        same(refused("message"), await ask(came, json.dumps({"set": {"items": 3}}).encode()))
         same(refused("message"), await ask(came, b"x" * 65537))
         same(refused("message"), await ask(came, b"x" * 1048576))
         await came.send(opening())
@@ -80,7 +93,7 @@ async def closes(port):
     await came.close(3210, "why")
     same(3210, came.close_rcvd.code)
     came = await link(port)
-    await came.send(spelled({"close": {}}).decode())
+    await came.send(closing().decode())
     await came.wait_closed()
     same(1005, came.close_code)
 
@@ -124,6 +137,7 @@ async def garbage(port):
 CHECKS = [
     ("ten visitors in turn have each their own values", 10, 0, 0, ten_in_turn),
     ("four visitors at once have each their own values", 4, 0, 0, four_at_once),
+    ("messages with blanks, as Python's `json` spells them, are answered", 1, 0, 0, spelled_by_json),
     ("texts, a binary message, fragments and pings are answered", 1, 0, 0, messages),
     ("a close frame and a close message end the link", 2, 0, 0, closes),
     ("a connection is dropped", 0, 1, 0, dropped),

@@ -11,7 +11,7 @@ CONTINUED, TEXT, BINARY, CLOSE, PING, PONG = 0, 1, 2, 8, 9, 10
 
 
 def spelled(frame):
-    return json.dumps(frame, sort_keys=True, separators=(",", ":")).encode()
+    return json.dumps(frame, ensure_ascii=False, sort_keys=True, separators=(",", ":")).encode()
 
 
 def cell(number, text=None):
@@ -33,6 +33,10 @@ def opening():
 
 def setting(name, number):
     return spelled({"set": {name: number}})
+
+
+def closing():
+    return spelled({"close": {}})
 
 
 class Sliders:
@@ -58,7 +62,6 @@ class Sliders:
             return refused("value", name=name)
         self.values[name] = number
         return [cell(1), self.total(), done(2)] if name == "items" else [self.total(), done(1)]
-
 
     def after_both(self, items, shipping):
         self.values = {"items": items, "shipping": shipping}
