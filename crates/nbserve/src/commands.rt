@@ -31,7 +31,7 @@ pub const USUAL_BUDGET: u64 = 200_000;
 // What a visitor sends who opens a notebook.
 const OPEN_MESSAGE: &[u8] = b"{\"open\":{}}";
 
-// What stands before each frame of a script's visitor.
+// What stands before each frame of a script: the number of its visitor, which is 1 for all of them.
 const VISITOR_LABEL: &[u8] = b"1 ";
 
 // The line behind the frames of a script: how many cached blocks ran, and how many were taken from the cache.

@@ -15,7 +15,7 @@ use Rattle.py_tree.specs.TextLines.{is_unbroken, text_of, byte_limit}
 abbrev pub Stay : Type 0
 Stay = List (Option Message)
 
--- whether this is the close message
+-- whether this is a close message
 abbrev pub is_close : Option Message → Bool
 is_close (Some Close) = true
 is_close m = false

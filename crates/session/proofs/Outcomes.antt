@@ -1,5 +1,5 @@
 -- What stands when a session ends.
-use Rattle.std.proofs.Common.{◌<◌, ◌⊎◌, ◌≡◌, inl, inr, ◌∙◌, refl, sym, ap, subst, ℕ, ◌+◌, ◌≤◌, List, [], ◌∷◌, ◌++◌, append-nil, length, map, arith}
+use Rattle.std.proofs.Common.{◌<◌, ◌⊎◌, ⊎_elim, ◌≡◌, inl, inr, ◌∙◌, refl, sym, ap, subst, ℕ, ◌+◌, ◌≤◌, List, [], ◌∷◌, ◌++◌, append-nil, length, map, arith}
 use Rattle.std.proofs.lemmas.List.{length-map}
 use Rattle.std.proofs.lemmas.List.Elements.{All-cons, All-head, All-nil, All-tail}
 use Rattle.std.specs.Prelude.{All, Option}
@@ -16,17 +16,17 @@ use Rattle.session.proofs.Calling.{Answered}
 use Rattle.session.specs.Endings.{ended_for}
 use Rattle.session.specs.Progress.{Closes, Stops}
 use Rattle.session.specs.Serving.{Counts, IsCounted, IsCutShort, IsServed, Serves, message_count_limit}
-use Rattle.session.specs.Talks.{AtEnd, IsNoClose, IsOther, TakesLast, Talked, bytes_of}
+use Rattle.session.specs.Talks.{AtEnd, IsNoClose, IsNoCloseText, TakesLast, Talked, bytes_of}
 use Rattle.session.specs.declared.ended.Ended.TheVariants as ended
 use Rattle.session.specs.declared.unsent.Unsent.{Unsent}
 use Rattle.session.specs.declared.unsent.Unsent.TheVariants as unsent
 
 -- messages whose bytes are no close message
-unclosed_of : (items : List Item) → All IsOther (map bytes_of items) → All IsNoClose items
+unclosed_of : (items : List Item) → All IsNoCloseText (map bytes_of items) → All IsNoClose items
 unclosed_of [] others = All-nil IsNoClose
 unclosed_of (m ∷ items) others =
-    All-cons IsNoClose m items (All-head IsOther (bytes_of m) (map bytes_of items) others)
-    (unclosed_of items (All-tail IsOther (bytes_of m) (map bytes_of items) others))
+    All-cons IsNoClose m items (All-head IsNoCloseText (bytes_of m) (map bytes_of items) others)
+    (unclosed_of items (All-tail IsNoCloseText (bytes_of m) (map bytes_of items) others))
 
 -- all parts for the messages were given
 all_given : {v : Visit} {count : ℕ} {before : Option Told} {items : List Item} {w : Visit} {count_after : ℕ} {now : Option Told}
@@ -151,8 +151,8 @@ none_left [] e = refl
 none_left (m ∷ items) e = absurd (cc)
 
 -- the parts that were given are a prefix of those for the messages that the kernel took
-abbrev broke : {why : Unsent} {v : Visit} {count : ℕ} {before : Option Told} {items : List Item} {count_after : ℕ} {now : Option Told}
-    → (b : Stops why v count before (map bytes_of items) items count_after now) → length items ≤ message_count_limit
+abbrev broke : {why : Unsent} {v : Visit} {count : ℕ} {before : Option Told} {items : List Item} {after : Visit} {count_after : ℕ} {now : Option Told}
+    → (b : Stops why v count before (map bytes_of items) items after count_after now) → length items ≤ message_count_limit
     → IsCutShort v before now
 broke {v = v} {count = count} {items = items} b few =
     let f = b.went in
@@ -168,26 +168,29 @@ broke {v = v} {count = count} {items = items} b few =
       are_all = p.all;
       one = omega arith;
       few = few;
-      unclosed = unclosed_of p.heard (subst (All IsOther) (sym p.heard_are) f.unclosed);
+      unclosed = unclosed_of p.heard (subst (All IsNoCloseText) (sym p.heard_are) f.unclosed);
       messages = on.messages;
       are = subst (λ bs. AreReceived bs on.messages) (f.took ∙ sym p.heard_are) on.are;
       texts = map frame_text (given_by f.calls);
       talked = f.talked;
       begin = record { sent = on.parts; rest = b.at.pending; whole = sym on.whole; texts = ap (map frame_text) on.frames };
+      behind = ⊎_elim (λ none. inl (none_left p.untaken (p.untaken_are ∙ none))) (λ over. inr over) b.behind;
     }
 
 pub serves_cut : {v : Visit} {count : ℕ} {before : Option Told} {count_after : ℕ} {now : Option Told}
-    → (why : Unsent) (items : List Item) (after : Visit) → (b : Stops why v count before (map bytes_of items) items count_after now)
+    → (why : Unsent) (items : List Item) (after : Visit) → (b : Stops why v count before (map bytes_of items) items after count_after now)
     → length items ≤ message_count_limit
     → (why ≡ unsent.Failed → (length items < message_count_limit) ⊎ (b.at.pending ≡ [] → ⊥)) → Serves (ended_for why) v before after now
 serves_cut unsent.Failed items after b few room =
     let none = (b.exact refl).0 in
     let p : Parted items b.took b.left = parted items b.took b.left b.are in
     (broke b few, none_left p.untaken (p.untaken_are ∙ none), room refl)
-serves_cut unsent.Memory items after b few room = broke b few
+serves_cut unsent.Memory items after b few room =
+    let p : Parted items b.took b.left = parted items b.took b.left b.are in
+    (broke b few, ⊎_elim (λ none. inl (none_left p.untaken (p.untaken_are ∙ none))) (λ spoiled. inr spoiled) b.spoils)
 
-pub counts_cut : {v : Visit} {count : ℕ} {before : Option Told} {count_after : ℕ} {now : Option Told}
-    → (why : Unsent) (items : List Item) → Stops why v count before (map bytes_of items) items count_after now
+pub counts_cut : {v : Visit} {count : ℕ} {before : Option Told} {after : Visit} {count_after : ℕ} {now : Option Told}
+    → (why : Unsent) (items : List Item) → Stops why v count before (map bytes_of items) items after count_after now
     → length items ≤ message_count_limit → Counts (ended_for why) v before count count_after now
 counts_cut {v = v} {count = count} unsent.Failed items b few =
     let steps = (b.exact refl).1 in

@@ -14,7 +14,6 @@ use Rattle.visit_meaning.specs.Answer.{Before, Part, frames_in, solo, state_afte
 use Rattle.message_meaning.specs.Messages.{IsReceived}
 use Rattle.message_meaning.specs.Sent.{AreReceived}
 use Rattle.messages.specs.declared.message.Message.{Message}
-use Rattle.messages.specs.declared.message.Message.TheVariants.{Close}
 use Rattle.session.specs.Serving.{IsCutShort, SentClosed, SentSolo, SentSome, Serves}
 use Rattle.session.specs.Talks.{AtEnd, IsClose, IsNoClose, TakesLast, Talked, bytes_of, texts_of}
 use Rattle.session.specs.declared.ended.Ended.TheVariants as ended
@@ -71,6 +70,7 @@ cut_solo nb budget all now h =
       texts = ap (λ ts. ts ++ rest) (ap (λ (o : Told). o.sent) is ∙ p.texts)
           ∙ sym (map-append frame_text (frames_in p.sent) (frames_in p.rest))
           ∙ ap (map frame_text) (sym (map-append (λ (q : Part). q.frame) p.sent p.rest) ∙ ap frames_in (sym p.whole));
+      behind = ⊎_elim (λ none. inl none) (λ over. inr (ap texts_of over)) h.behind;
     }
 
 pub fault_solo : (nb : List CellCode) (budget : ℕ) (all : List Item) (after : Visit) (now : Told)
@@ -111,7 +111,7 @@ ends_by nb budget all items left texts messages now whole are solo_texts m close
       ends = inr (m, close, ap (λ (o : Told). o.taken) is);
     }
 
--- no message is the close message, where the bytes of none are
+-- no message is a close message, where the bytes of none are
 others_received : (items : List Item) (messages : List (Option Message)) → AreReceived (map bytes_of items) messages → All IsNoClose items
     → HasNoClose messages
 others_received [] [] are others = tt
@@ -122,7 +122,7 @@ others_received (m ∷ items) (k ∷ messages) are others = (
   others_received items messages are.1 (All-tail IsNoClose m items others),
 )
 
--- From the beginning on, behind messages of which none is the close message, it is a close message that ends a visit.
+-- From the beginning on, behind messages of which none is a close message, it is a close message that ends a visit.
 pub last_closes : (nb : List CellCode) (budget : ℕ) (items : List Item) (messages : List (Option Message)) (mid now : Option Told)
     → AreReceived (map bytes_of items) messages → All IsNoClose items
     → (last : TakesLast (state_after (view_cells nb) budget Before messages) mid now) → IsClose last.item

@@ -1,5 +1,5 @@
 -- What a visitor is sent who is served, and the steps that are counted.
-use Rattle.std.specs.Prelude.{◌≡◌, ℕ, ◌+◌, ◌<◌, ◌≤◌, ◌⊎◌, All, List, [], ◌∷◌, ◌++◌, false, length, map, Option, Some}
+use Rattle.std.specs.Prelude.{◌≡◌, ℕ, ◌+◌, ◌<◌, ◌≤◌, ◌⊎◌, All, List, [], ◌∷◌, ◌++◌, true, false, length, map, Option}
 use Rattle.frame_meaning.specs.FrameText.{frame_text}
 use Rattle.kernel.specs.Calls.{newest_after, parts_for}
 use Rattle.kernel.specs.Visit.{Stands, Visit, closed, first_cost}
@@ -13,7 +13,7 @@ use Rattle.session.specs.Talks.{AtEnd, IsClose, IsNoClose, IsOver, TakesLast, Ta
 use Rattle.session.specs.declared.ended.Ended.{Ended}
 use Rattle.session.specs.declared.ended.Ended.TheVariants as ended
 
--- These messages were taken from the link, none of them the close message, and exactly the texts for them were sent: those of the frames that
+-- These messages were taken from the link, none of them a close message, and exactly the texts for them were sent: those of the frames that
 -- were still to come, and those of a visitor alone who sends these messages from there on. No frame is to come; state and newest frames are
 -- those to which these lead, they stand as those of the whole notebook, and the kernel isn't spoiled.
 pub record IsServed (v : Visit) (before : Option Told) (items : List Item) (after : Visit) (now : Option Told) : Type 0 where
@@ -41,8 +41,9 @@ abbrev pub message_count_limit : ℕ
 message_count_limit = 1000000
 
 -- Messages were taken, and texts were sent, which are a prefix of those for the messages that the kernel took: for all that were taken from the
--- link, but for one at most, where memory was wanting. None that the kernel took is a close message. That says also that no message is taken
--- before all texts so far were sent: it might be a close message, and then the sending might fail.
+-- link, but for a last one at most, where memory was wanting. None that the kernel took is a close message, and one that it didn't take was taken
+-- from the link only once all texts for those before it were sent. So no body takes a message before all texts so far were sent: it might be a close
+-- message, which is none of those that the kernel took, and then the sending might fail.
 pub record IsCutShort (v : Visit) (before now : Option Told) : Type 0 where
   pub items : List Item
   pub heard : List Item
@@ -56,20 +57,22 @@ pub record IsCutShort (v : Visit) (before now : Option Told) : Type 0 where
   pub texts : List (List ℕ)
   pub talked : Talked before now items texts
   pub begin : ArePrefix (parts_for v messages) texts
+  pub behind : (untaken ≡ []) ⊎ (begin.rest ≡ [])
 
 -- A visit over a link is over: no message is left, or the next one closed it. The newest frames stay as they are.
 abbrev pub EndsAt : Visit → Option Told → Visit → Option Told → Type 0
 EndsAt v before after now = (AtEnd before now × (after ≡ v)) ⊎ (TakesLast v.state before now × (after ≡ closed v))
 
 -- What was taken and sent when a session ends. Where it was closed, nothing more was read than the message that closed it, if there was one.
--- Where the link failed, not so many messages were answered as one call answers.
+-- Where the link failed, not so many messages were answered as one call answers. Where memory was wanting for a message that was taken from the
+-- link, the kernel is spoiled.
 abbrev pub Serves : Ended → Visit → Option Told → Visit → Option Told → Type 0
 Serves ended.Closed v before after now = (items : List Item) × (length items < message_count_limit)
     × (at : Visit) × (mid : Option Told) × IsServed v before items at mid × EndsAt at mid after now
 Serves ended.TooMany v before after now = (items : List Item) × (length items ≡ message_count_limit) × IsServed v before items after now
 Serves ended.LinkFault v before after now = (c : IsCutShort v before now) × (c.untaken ≡ [])
     × ((length c.items < message_count_limit) ⊎ (c.begin.rest ≡ [] → ⊥))
-Serves ended.Memory v before after now = IsCutShort v before now
+Serves ended.Memory v before after now = (c : IsCutShort v before now) × ((c.untaken ≡ []) ⊎ (after.spoiled ≡ true))
 
 -- these messages were taken, and exactly the steps of the parts for them were counted
 pub record IsCounted (v : Visit) (before : Option Told) (items : List Item) (count count_after : ℕ) (now : Option Told) : Type 0 where
@@ -97,7 +100,8 @@ pub record SentSolo (nb : List CellCode) (budget : ℕ) (items : List Item) (now
   pub are : AreReceived (map bytes_of items) messages
   pub texts : now.sent ≡ map frame_text (solo (view_cells nb) budget messages)
 
--- of these messages, the texts of a visitor alone who sends the first ones were sent up to some place
+-- Of these messages, the texts of a visitor alone who sends the first ones were sent up to some place: all of them, where there is one that the
+-- kernel didn't take.
 pub record SentSome (nb : List CellCode) (budget : ℕ) (all heard untaken : List Item) (now : Told) : Type 0 where
   pub messages : List (Option Message)
   pub are : AreReceived (map bytes_of heard) messages
@@ -106,6 +110,7 @@ pub record SentSome (nb : List CellCode) (budget : ℕ) (all heard untaken : Lis
   pub all_are : now.taken ++ now.left ≡ all
   pub rest : List (List ℕ)
   pub texts : now.sent ++ rest ≡ map frame_text (solo (view_cells nb) budget messages)
+  pub behind : (untaken ≡ []) ⊎ (rest ≡ [])
 
 -- the messages up to the end of the link, or to a close message, were answered
 pub record SentClosed (nb : List CellCode) (budget : ℕ) (all : List Item) (now : Told) : Type 0 where

@@ -16,15 +16,15 @@ bytes_of (Some bytes) = bytes
 bytes_of None = []
 
 -- the bytes are no close message
-abbrev pub IsOther : List ℕ → Type 0
-IsOther bytes = IsMessage bytes Close → ⊥
+abbrev pub IsNoCloseText : List ℕ → Type 0
+IsNoCloseText bytes = IsMessage bytes Close → ⊥
 
--- a message that is taken is the close message, or it isn't
+-- a message that is taken is a close message, or it isn't
 abbrev pub IsClose : Item → Type 0
 IsClose m = IsMessage (bytes_of m) Close
 
 abbrev pub IsNoClose : Item → Type 0
-IsNoClose m = IsOther (bytes_of m)
+IsNoClose m = IsNoCloseText (bytes_of m)
 
 -- the texts of the frames of parts, one a frame
 abbrev pub texts_of : List Part → List (List ℕ)

@@ -22,7 +22,7 @@ pub fn sent_is_solo()
         → Serves ended.LinkFault (begun nb budget) (Some (fresh all)) after (Some now)
         → SentSome nb budget all now.taken [] now }
 
-    // Of the messages that were taken there is one at most which the kernel didn't take.
+    // Of the messages that were taken there is one at most which the kernel didn't take, and then all texts before it were sent.
     ensures memory { (nb : List CellCode) (budget : ℕ) (all : List Item) (after : Visit) (now : Told)
         → Serves ended.Memory (begun nb budget) (Some (fresh all)) after (Some now)
         → (heard : List Item) × (untaken : List Item) × (length untaken ≤ 1)

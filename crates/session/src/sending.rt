@@ -48,7 +48,7 @@ pub fn drain<'n, K: Link, L: Ledger>(
     ensures drained { OnOk result
         (Drains kernel.old steps.old (K.told link.old) [] kernel.new steps.new (K.told link.new)) }
     ensures broke { IfErr result
-        (λ why. Breaks why kernel.old steps.old (K.told link.old) [] [] steps.new (K.told link.new)) }
+        (λ why. Breaks why kernel.old steps.old (K.told link.old) [] [] kernel.new steps.new (K.told link.new)) }
     ensures later { K.faults link.old ≤ K.faults link.new }
     ensures failed { IfErr result
         (λ why. why ≡ Unsent.Failed → Rose (K.faults link.old) (K.faults link.new)) }

@@ -44,7 +44,7 @@ fn answer_message<'n, K: Link, L: Ledger>(
     ensures answered { IfOk result
         (λ came. Answers came kernel.old steps.old (K.told link.old) bytes.now kernel.new steps.new (K.told link.new)) }
     ensures broke { IfErr result
-        (λ why. Breaks why kernel.old steps.old (K.told link.old) (bytes.now ∷ []) [] steps.new (K.told link.new)) }
+        (λ why. Breaks why kernel.old steps.old (K.told link.old) (bytes.now ∷ []) [] kernel.new steps.new (K.told link.new)) }
     ensures later { K.faults link.old ≤ K.faults link.new }
     ensures failed { IfErr result
         (λ why. why ≡ Unsent.Failed → Rose (K.faults link.old) (K.faults link.new)) }

@@ -10,7 +10,7 @@ use Rattle.run_meaning.specs.Meaning.{Env}
 use Rattle.visit_meaning.specs.Answer.{State, Before, On, Ended, answer, answer_by, first_unfit, first_unknown, state_after, values_sent}
 use Rattle.visit_meaning.specs.Whole.{whole}
 
--- none of the messages is the close message
+-- none of the messages is a close message
 abbrev pub HasNoClose : List (Option Message) → Type 0
 HasNoClose [] = Unit {0}
 HasNoClose (m ∷ ms) = (m ≡ Some Close → ⊥) × HasNoClose ms
@@ -45,7 +45,7 @@ on_after nb budget state [] others on = on
 on_after nb budget state (m ∷ ms) others on =
     on_after nb budget (answer nb budget state m).state ms others.1 (goes_on nb budget state m on others.0)
 
--- From the beginning on messages of which none is the close message don't end a visit.
+-- From the beginning on messages of which none is a close message don't end a visit.
 pub not_ended : (nb : List Cell) (budget : ℕ) (ms : List (Option Message)) → HasNoClose ms → state_after nb budget Before ms ≡ Ended → ⊥
 not_ended nb budget ms others over =
     let on = on_after nb budget Before ms others refl in

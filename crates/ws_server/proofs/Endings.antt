@@ -34,7 +34,7 @@ ends_at_end nb budget all items left messages now whole are unclosed few end = (
   (items, unclosed, few, (messages, are, refl), inl (refl, end.0)),
 )
 
--- or to the close message
+-- or to a close message
 ends_by : (nb : List CellCode) (budget : ℕ) (all items left : List Item) (messages : List (Option Message)) (now : Option Told) → all ≡ items ++ left
     → AreReceived (map bytes_of items) messages → All IsNoClose items → length items < message_count_limit
     → (m : Item) → IsClose m → Talked (Some (record { taken = items; left = left; sent = texts_for nb budget messages })) now (m ∷ []) []
@@ -61,13 +61,14 @@ closes nb budget w all now h =
     h.5
 
 rest_of : (nb : List CellCode) (budget : ℕ) (before now : Option Told) (c : IsCutShort (begun nb budget) before now)
-    → (rest : List (List ℕ)) × (c.texts ++ rest ≡ texts_of (parts_for (begun nb budget) c.messages))
+    → (rest : List (List ℕ)) × (c.texts ++ rest ≡ texts_of (parts_for (begun nb budget) c.messages)) × (c.begin.rest ≡ [] → rest ≡ [])
 rest_of nb budget before now c =
     let p = c.begin in
     let rest : List (List ℕ) = texts_of p.rest in (
       rest,
       ap (λ ts. ts ++ rest) p.texts ∙ sym (map-append frame_text (frames_in p.sent) (frames_in p.rest))
           ∙ ap (map frame_text) (sym (map-append (λ (q : Part). q.frame) p.sent p.rest) ∙ ap frames_in (sym p.whole)),
+      λ over. ap texts_of over,
     )
 
 pub ends_of : (nb : List CellCode) (budget : ℕ) (w : Visit) (all : List Item) (now : Option Told) (end : Ended)
@@ -92,21 +93,23 @@ ends_of nb budget w all now ended.LinkFault h =
       (subst (All IsNoClose) heard c.unclosed, c.few, texts_of (parts_for (begun nb budget) c.messages), (c.messages, are, refl), rest.0, rest.1),
     )
 ends_of nb budget w all now ended.Memory h =
-    let t = h.talked in
-    let rest = rest_of nb budget (Some (fresh all)) now h in (
-      record { taken = h.items; left = t.0; sent = h.texts },
+    let c = h.0 in
+    let t = c.talked in
+    let rest = rest_of nb budget (Some (fresh all)) now c in (
+      record { taken = c.items; left = t.0; sent = c.texts },
       t.2,
       sym t.1,
       (
-        h.few,
-        h.heard,
-        h.untaken,
-        h.unclosed,
-        h.are_all,
-        h.one,
-        texts_of (parts_for (begun nb budget) h.messages),
-        (h.messages, h.are, refl),
+        c.few,
+        c.heard,
+        c.untaken,
+        c.unclosed,
+        c.are_all,
+        c.one,
+        texts_of (parts_for (begun nb budget) c.messages),
+        (c.messages, c.are, refl),
         rest.0,
         rest.1,
+        ⊎_elim (λ none. inl none) (λ over. inr (rest.2 over)) c.behind,
       ),
     )

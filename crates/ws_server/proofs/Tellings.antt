@@ -3,7 +3,7 @@ use Rattle.std.proofs.Common.{◌≡◌, ◌∙◌, inl, inr, refl, sym, ap, sub
 use Rattle.std.proofs.lemmas.List.{length-map}
 use Rattle.std.proofs.lemmas.List.Elements.{All-cons, All-nil}
 use Rattle.std.proofs.lemmas.List.Sums.{sum_by-cons}
-use Rattle.std.specs.Prelude.{◌⊎◌, All, Some, sum_by}
+use Rattle.std.specs.Prelude.{◌⊎◌, All, sum_by}
 use Rattle.link_io.specs.Doors.{Parted}
 use Rattle.link_io.specs.Links.{Item}
 use Rattle.link_io.specs.Porches.{Seen}
@@ -140,11 +140,13 @@ answered alone m p ended.Closed f few =
         unheard = [];
         taken = end.0 ∙ sym own;
         one = omega arith;
+        unclosed = f.ends.1;
         close = λ none. All-nil IsClose;
         texts = f.told.sent;
         are = f.ends.3;
         rest = [];
         sent = append-nil f.told.sent;
+        behind = inr refl;
       }
       | inr closed ↦ record {
         told = f.told;
@@ -153,11 +155,13 @@ answered alone m p ended.Closed f few =
         unheard = closed.0 ∷ [];
         taken = closed.2;
         one = omega arith;
+        unclosed = f.ends.1;
         close = λ none. All-cons IsClose closed.0 [] closed.1 (All-nil IsClose);
         texts = f.told.sent;
         are = f.ends.3;
         rest = [];
         sent = append-nil f.told.sent;
+        behind = inr refl;
       }
     ]
 answered alone m p ended.TooMany f few = record {
@@ -167,11 +171,13 @@ answered alone m p ended.TooMany f few = record {
   unheard = [];
   taken = sym (append-nil f.told.taken);
   one = omega arith;
+  unclosed = f.ends.0;
   close = λ none. All-nil IsClose;
   texts = f.told.sent;
   are = f.ends.2;
   rest = [];
   sent = append-nil f.told.sent;
+  behind = inr refl;
 }
 answered alone m p ended.LinkFault f few = record {
   told = f.told;
@@ -180,11 +186,13 @@ answered alone m p ended.LinkFault f few = record {
   unheard = [];
   taken = sym (append-nil f.told.taken);
   one = omega arith;
+  unclosed = f.ends.0;
   close = λ none. All-nil IsClose;
   texts = f.ends.2;
   are = f.ends.3;
   rest = f.ends.4;
   sent = f.ends.5;
+  behind = inl refl;
 }
 answered alone m p ended.Memory f few = record {
   told = f.told;
@@ -193,11 +201,13 @@ answered alone m p ended.Memory f few = record {
   unheard = f.ends.2;
   taken = f.ends.4;
   one = f.ends.5;
+  unclosed = f.ends.3;
   close = λ none. absurd (omega (arith, few, none));
   texts = f.ends.6;
   are = f.ends.7;
   rest = f.ends.8;
   sent = f.ends.9;
+  behind = f.ends.10;
 }
 
 all_answered : (alone : Alone) (m : ℕ) (vs : List Visitor) → AllFit alone vs → sum_by memory_in (map (λ (v : Visitor). v.end) vs) ≤ m

@@ -5,7 +5,7 @@ use Rattle.link_io.specs.Links.{Item, Told}
 use Rattle.link_io.specs.Outside.{Rose}
 use Rattle.link_io.specs.Porches.{Seen}
 use Rattle.session.specs.Serving.{message_count_limit}
-use Rattle.session.specs.Talks.{IsClose}
+use Rattle.session.specs.Talks.{IsClose, IsNoClose}
 use Rattle.session.specs.declared.ended.Ended.TheVariants as ended
 use Rattle.ws_server.specs.Visitors.{Alone, Ends}
 use Rattle.ws_server.specs.declared.report.Report.{Report}
@@ -51,8 +51,8 @@ IsClosed alone p = (t : Told) × (p.told ≡ Some t) × Ends alone ended.Closed 
 abbrev pub IsFull : Parted → Type 0
 IsFull p = (t : Told) × (p.told ≡ Some t) × (message_count_limit ≤ length t.taken)
 
--- The texts are a prefix of those of a visitor alone for the messages that were taken, but for a last one which wasn't answered: a close message, or one
--- at which memory was wanting.
+-- The texts are a prefix of those of a visitor alone for the messages that were taken, of which none is a close message, but for a last one at most
+-- which wasn't answered: a close message, or one at which memory was wanting. Where there is one, all texts for those before it were sent.
 pub record IsAnswered (alone : Alone) (memory : ℕ) (p : Parted) : Type 0 where
   pub told : Told
   pub is : p.told ≡ Some told
@@ -60,11 +60,13 @@ pub record IsAnswered (alone : Alone) (memory : ℕ) (p : Parted) : Type 0 where
   pub unheard : List Item
   pub taken : told.taken ≡ heard ++ unheard
   pub one : length unheard ≤ 1
+  pub unclosed : All IsNoClose heard
   pub close : memory ≡ 0 → All IsClose unheard
   pub texts : List (List ℕ)
   pub are : alone heard texts
   pub rest : List (List ℕ)
   pub sent : told.sent ++ rest ≡ texts
+  pub behind : (unheard ≡ []) ⊎ (rest ≡ [])
 
 -- What a report tells. By itself: who is counted under no other number met want of memory, and a fault that is counted is one of a door. Where all doors
 -- tell their visitors, it tells of those who were newly parted; and where no door failed and memory wasn't wanting, all who waited were served, up to

@@ -21,8 +21,8 @@ alone_in nb budget items texts =
     (ms : List (Option Message)) × AreReceived (map bytes_of items) ms × (texts ≡ map frame_text (solo nb budget ms))
 
 -- Closed: the link was read to its end or to a close message, and the texts that were sent are exactly those for the messages before it. TooMany:
--- exactly those for 1,000,000 messages. Else a prefix of those for the messages that were taken, but for one at most where memory was wanting.
--- No close message is among those that were answered.
+-- exactly those for 1,000,000 messages. Else a prefix of those for the messages that were taken, but for a last one at most where memory was wanting,
+-- and where there is one, all of them. No close message is among those that were answered.
 abbrev pub Ends : Alone → Ended → Told → Type 0
 Ends alone ended.Closed t = (items : List Item) × All IsNoClose items × (length items < message_count_limit) × alone items t.sent
     × (((t.taken ≡ items) × (t.left ≡ [])) ⊎ ((m : Item) × IsClose m × (t.taken ≡ items ++ m ∷ [])))
@@ -32,6 +32,7 @@ Ends alone ended.LinkFault t = All IsNoClose t.taken × (length t.taken ≤ mess
 Ends alone ended.Memory t = (length t.taken ≤ message_count_limit)
     × (heard : List Item) × (untaken : List Item) × All IsNoClose heard × (t.taken ≡ heard ++ untaken) × (length untaken ≤ 1)
     × (texts : List (List ℕ)) × alone heard texts × (rest : List (List ℕ)) × (t.sent ++ rest ≡ texts)
+    × ((untaken ≡ []) ⊎ (rest ≡ []))
 
 -- a visitor who came with these messages, once the session ended
 abbrev pub IsEnded : Alone → List Item → Ended → Option Told → Type 0

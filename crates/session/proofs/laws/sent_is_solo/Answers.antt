@@ -7,5 +7,5 @@ returns c = record {
   closed = closed_solo;
   many = many_solo;
   fault = fault_solo;
-  memory = λ nb budget all after now h. (h.heard, h.untaken, h.one, cut_solo nb budget all now h);
+  memory = λ nb budget all after now h. (h.0.heard, h.0.untaken, h.0.one, cut_solo nb budget all now h.0);
 }

@@ -18,15 +18,15 @@ pub returns-in_err-frame-clause-broke : goal.returns-in_err-frame-clause-broke
 returns-in_err-frame-clause-broke g c =
     let told = g.K.Link.told c.args.link.now in
     let Broke : Unsent → Type 0 = λ why.
-    Breaks why c.args.kernel.now c.args.steps.now told [] [] c.step.new.steps (g.K.Link.told c.loop-frame.link) in
+    Breaks why c.args.kernel.now c.args.steps.now told [] [] c.step.new.self c.step.new.steps (g.K.Link.told c.loop-frame.link) in
     if_err_of c.from_residual.result unsent.Memory Broke c.from_residual.ensures.1
-    (breaks_step c.step.new.steps c.loop-frame.invariant.1 c.step.ensures.most)
+    (breaks_step c.step.new.self c.step.new.steps c.loop-frame.invariant.1 c.step.ensures.most)
 
 pub returns-in_err-send_frame-clause-broke : goal.returns-in_err-send_frame-clause-broke
 returns-in_err-send_frame-clause-broke g c =
     let gives = rw c.in-Frame.is at c.in_ok-frame.ensures.steps in
     let why = c.in_err-send_frame.field-0.0 in
     let Broke : Unsent → Type 0 = λ why.
-    Breaks why c.args.kernel.now c.args.steps.now (g.K.Link.told c.args.link.now) [] [] c.step.new.steps (g.K.Link.told c.send_frame.new.link) in
+    Breaks why c.args.kernel.now c.args.steps.now (g.K.Link.told c.args.link.now) [] [] c.step.new.self c.step.new.steps (g.K.Link.told c.send_frame.new.link) in
     if_err_of c.from_residual-in_err-send_frame.result why Broke c.from_residual-in_err-send_frame.ensures.1
     (breaks_frame why c.in-Frame.frame c.step.new.self c.step.new.steps (g.K.Link.told c.send_frame.new.link) c.loop-frame.invariant.1 gives c.in_err-send_frame.ensures.unsent)

@@ -40,7 +40,7 @@ returns-in-Err-answer_message-clause-serves g c =
     let heard = rw c.in-Message.is at c.hear.ensures.hears in
     let now = g.K.Link.told c.answer_message.new.link in
     let few : length (so_far.0 ++ heard.0 ∷ []) ≤ 1000000 = omega (arith, so_far.1, c.loop-test.true, length-append so_far.0 (heard.0 ∷ [])) in
-    let broke = breaks_next heard.0 c.as_slice.result.now (g.K.Link.told c.hear.new.link) c.answer_message.new.steps now
+    let broke = breaks_next heard.0 c.as_slice.result.now (g.K.Link.told c.hear.new.link) c.answer_message.new.kernel c.answer_message.new.steps now
     so_far.2 (heard.1 ∙ sym c.as_slice.ensures.value) heard.2 c.in-Err-answer_message.ensures.broke in
     subst (λ end. Serves end c.args.kernel.now told c.answer_message.new.kernel now) (sym c.ended_of-in-Err-answer_message.ensures)
     (serves_cut c.in-Err-answer_message.why (so_far.0 ++ heard.0 ∷ []) c.answer_message.new.kernel broke.stops few
@@ -53,7 +53,7 @@ returns-in-Err-answer_message-clause-steps g c =
     let heard = rw c.in-Message.is at c.hear.ensures.hears in
     let now = g.K.Link.told c.answer_message.new.link in
     let few : length (so_far.0 ++ heard.0 ∷ []) ≤ 1000000 = omega (arith, so_far.1, c.loop-test.true, length-append so_far.0 (heard.0 ∷ [])) in
-    let broke = breaks_next heard.0 c.as_slice.result.now (g.K.Link.told c.hear.new.link) c.answer_message.new.steps now
+    let broke = breaks_next heard.0 c.as_slice.result.now (g.K.Link.told c.hear.new.link) c.answer_message.new.kernel c.answer_message.new.steps now
     so_far.2 (heard.1 ∙ sym c.as_slice.ensures.value) heard.2 c.in-Err-answer_message.ensures.broke in
     subst (λ end. Counts end c.args.kernel.now told c.args.steps.now c.answer_message.new.steps now) (sym c.ended_of-in-Err-answer_message.ensures)
     (counts_cut c.in-Err-answer_message.why (so_far.0 ++ heard.0 ∷ []) broke.stops few)

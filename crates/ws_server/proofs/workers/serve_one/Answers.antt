@@ -1,5 +1,5 @@
 -- The session begins with a kernel at its beginning.
-use Rattle.std.proofs.Common.{[], refl, arith}
+use Rattle.std.proofs.Common.{[], inl, refl, arith}
 use Rattle.std.proofs.lemmas.List.Elements.{All-nil}
 use Rattle.link_io.specs.Links.{fresh}
 use Rattle.session.specs.Talks.{IsNoClose}
@@ -12,4 +12,4 @@ returns-clause-ends g c all told =
     (rw (c.in-Ok.ensures, told) at c.serve_visitor.ensures.serves)
 
 pub returns-in_default-clause-ends : goal.returns-in_default-clause-ends
-returns-in_default-clause-ends g c all told = (fresh all, told, refl, (omega arith, [], [], All-nil IsNoClose, refl, omega arith, [], ([], tt, refl), [], refl))
+returns-in_default-clause-ends g c all told = (fresh all, told, refl, (omega arith, [], [], All-nil IsNoClose, refl, omega arith, [], ([], tt, refl), [], refl, inl refl))
