@@ -1,5 +1,5 @@
 -- The present values that a visitor's messages leave: each is that of an element in being, which admits it.
-use Rattle.std.proofs.Common.{◌≡◌, ◌∙◌, refl, sym, ap, subst, ℕ, ℤ, Bool, true, false, cond, not, ◌==◌, List, [], ◌∷◌, find, is_none, Option, Some, None, ⊎_elim}
+use Rattle.std.proofs.Common.{◌≡◌, ◌∙◌, refl, sym, ap, subst, ℕ, ℤ, Bool, true, false, cond, not, ◌==◌, List, [], ◌∷◌, Option, Some, None, ⊎_elim}
 use Rattle.std.specs.Prelude.{flat_map, option_and_then}
 use Rattle.std.specs.Str.{bytes_eq}
 use Rattle.std.proofs.lemmas.Bool.{both_ways, cases_Bool, eqb-true, false_from_ne_true, or_cases}

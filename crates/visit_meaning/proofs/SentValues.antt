@@ -1,5 +1,5 @@
 -- Values that are sent, each of which its element admits: they are the values that are set.
-use Rattle.std.proofs.Common.{◌≡◌, ◌∙◌, refl, ap, ℕ, Bool, true, false, cond, List, [], ◌∷◌, find, map, is_none, Option, Some, None}
+use Rattle.std.proofs.Common.{◌≡◌, ◌∙◌, refl, ap, cond, List, [], ◌∷◌, map, is_none, Option, Some, None}
 use Rattle.std.specs.Prelude.{option_and_then}
 use Rattle.std.proofs.lemmas.Option.{none-some, option_and_then_some}
 use Rattle.messages.specs.declared.message.SetItem.{SetItem}
@@ -8,7 +8,7 @@ use Rattle.py_value.specs.Maps.{Map}
 use Rattle.py_value.specs.declared.types.Data.{Data}
 use Rattle.py_value.specs.declared.types.Value.{Value}
 use Rattle.run_meaning.specs.Meaning.{Env}
-use Rattle.visit_meaning.specs.Answer.{element_in, first_unfit, first_unknown, names_of, value_set, value_sent, values_sent, with_sent}
+use Rattle.visit_meaning.specs.Answer.{first_unfit, first_unknown, names_of, value_set, value_sent, values_sent, with_sent}
 use Rattle.visit_meaning.specs.Rerun.{AllSent, AllSet}
 use Rattle.visit_meaning.proofs.SetValues.{element_there}
 

@@ -1,5 +1,5 @@
 -- What present values and bindings have at a name when values are set.
-use Rattle.std.proofs.Common.{◌≡◌, ◌∙◌, refl, sym, ap, subst, ℕ, true, false, not, List, [], ◌∷◌, ◌==◌, find, flat_map, is_none, Option, Some, None, ⊎_elim}
+use Rattle.std.proofs.Common.{◌≡◌, ◌∙◌, refl, sym, ap, subst, ℕ, true, false, not, List, [], ◌∷◌, ◌==◌, flat_map, Option, Some, None, ⊎_elim}
 use Rattle.std.specs.Prelude.{cond, option_and_then}
 use Rattle.std.specs.Str.{bytes_eq}
 use Rattle.std.proofs.lemmas.Bool.{cases_Bool, false_from_ne_true, or_cases, or_left, or_parts, or_right, both_ways, eq-eqb}
