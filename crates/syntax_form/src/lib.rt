@@ -1,0 +1,2 @@
+//! Expressions of the whole language: what spells them, how deep they are, and which trees the grammar has.
+#![tactic(auto)]

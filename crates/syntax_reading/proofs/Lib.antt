@@ -1,0 +1,4 @@
+pub mod Binding
+pub mod Shaped
+pub mod Spelling
+pub mod WordLaws

@@ -1,0 +1,5 @@
+pub mod Items
+pub mod Readers
+pub mod Reading
+pub mod Tables
+pub mod Words

@@ -1,0 +1,2 @@
+//! Reading.
+#![tactic(auto)]
