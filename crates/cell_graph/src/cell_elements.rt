@@ -27,7 +27,7 @@ fn element_name(line: &Line) -> Option<&str>
         ≡ created.head_elements (view_head line.now) }
 {
     match line {
-        Line::Assign(targets, Expr::Call(callee, _)) => match targets.items() {
+        Line::Assign(targets, Expr::Call { callee, .. }) => match targets.items() {
             [name] => {
                 ui_kind(callee.get())?;
                 Some(name.items())

@@ -2,9 +2,9 @@
 ghost use Rattle.std.specs.Prelude.{◌≡◌, ◌++◌, ◌∷◌, [], OnOk};
 ghost use Rattle.cell_graph.specs.Texts.{texts};
 ghost use Rattle.py_tree.specs.Scope as scope;
-ghost use Rattle.py_tree.specs.View.{view, views, view_block, view_head};
+ghost use Rattle.py_tree.specs.View.{view, view_arguments, view_block, view_head};
 
-use py_tree::{Block, Expr, Line, Spelling};
+use py_tree::{Argument, Block, Expr, Line, Spelling};
 use py_value::Memory;
 
 // Adds every name that lines and their blocks bind at cell scope.
@@ -38,28 +38,33 @@ fn add_reads<'a>(names: &mut Vec<&'a str>, expr: &'a Expr) -> Result<(), Memory>
         (texts names.new.items ≡ texts names.old.items ++ scope.reads (view expr.now)) }
 {
     match expr {
-        Expr::Literal(_) => Ok(()),
         Expr::Name(name) => add_name(names, name),
-        Expr::Sum(left, right) => {
+        Expr::Add(left, right) => {
             add_reads(names, left.get())?;
             add_reads(names, right.get())
         }
         Expr::Attribute(base, _) => add_reads(names, base.get()),
-        Expr::Call(callee, arguments) => {
+        Expr::Call {
+            callee, arguments, ..
+        } => {
             add_reads(names, callee.get())?;
             add_all_reads(names, arguments.items())
         }
+        _ => Ok(()),
     }
 }
 
-// Adds the names that expressions read.
+// Adds the names that arguments read.
 #[cycle(add_reads)]
-fn add_all_reads<'a>(names: &mut Vec<&'a str>, exprs: &'a [Expr]) -> Result<(), Memory>
+fn add_all_reads<'a>(names: &mut Vec<&'a str>, arguments: &'a [Argument]) -> Result<(), Memory>
     ensures { OnOk result
-        (texts names.new.items ≡ texts names.old.items ++ scope.all_reads (views exprs.now)) }
+        (texts names.new.items ≡ texts names.old.items ++ scope.all_reads (view_arguments arguments.now)) }
 {
-    for expr in exprs {
-        add_reads(names, expr)?;
+    for argument in arguments {
+        match argument {
+            Argument::Positional(value) => add_reads(names, value)?,
+            Argument::Keyword(_, value) => add_reads(names, value)?,
+        }
     }
     Ok(())
 }
@@ -80,7 +85,7 @@ fn add_line_reads<'a>(names: &mut Vec<&'a str>, line: &'a Line) -> Result<(), Me
     match line {
         Line::Value(value) => add_reads(names, value),
         Line::Assign(_, value) => add_reads(names, value),
-        Line::ImportMo => Ok(()),
+        _ => Ok(()),
     }
 }
 
@@ -90,13 +95,13 @@ fn add_line_binds<'a>(names: &mut Vec<&'a str>, line: &'a Line) -> Result<(), Me
         (texts names.new.items ≡ texts names.old.items ++ scope.head_binds (view_head line.now)) }
 {
     match line {
-        Line::Value(_) => {}
         Line::Assign(targets, _) => {
             for target in targets.items() {
                 add_name(names, target)?;
             }
         }
         Line::ImportMo => names.push("mo")?,
+        _ => {}
     }
     Ok(())
 }

@@ -13,7 +13,7 @@ ghost use Rattle.py_value.specs.Maps.{where_name};
 
 use crate::elements::call_value;
 use crate::eval::eval;
-use crate::meter::{Halt, charge};
+use crate::meter::{Halt, charge, unknown_form};
 use crate::scene::{Env, Scene};
 use py_tree::{Expr, Line, Spelling, Stmt};
 use py_value::{ErrorKind, Text, Value};
@@ -72,6 +72,7 @@ fn run_line(
             env.put(name, Binding::Module)?;
             Ok(None)
         }
+        _ => Err(unknown_form(number)),
     }
 }
 
@@ -92,7 +93,9 @@ fn right_side(
     ensures used { left.new ≤ left.old }
 {
     match tree {
-        Expr::Call(callee, arguments) => {
+        Expr::Call {
+            callee, arguments, ..
+        } => {
             let arguments = arguments.items();
             call_value(
                 alloc,
@@ -105,9 +108,7 @@ fn right_side(
                 left,
             )
         }
-        Expr::Literal(_) | Expr::Name(_) | Expr::Sum(_, _) | Expr::Attribute(_, _) => {
-            eval(alloc, tree, scene, env, line, left)
-        }
+        _ => eval(alloc, tree, scene, env, line, left),
     }
 }
 

@@ -7,7 +7,7 @@ use Rattle.std.proofs.lemmas.Option.{some_pair_parts}
 use Rattle.thin_form.specs.Choices.{◌>>=◌}
 use Rattle.thin_form.specs.Sums.{read_term, next_term, read_more, read_sum}
 use Rattle.form_meaning.specs.Thin.{Elements, terms}
-use Rattle.py_tree.specs.Trees.{Tree, sum}
+use Rattle.py_tree.specs.Trees.{Tree, binary, Add}
 use Rattle.thin_form.proofs.Options.{cond_ok}
 use Rattle.thin_form.proofs.SumFound.{term_found}
 
@@ -24,7 +24,7 @@ no_plus es t (mark ∷ []) l e = refl
 no_plus es t (mark ∷ word ∷ rest) l e = rw (cond_none (bytes_eq mark (codes "+")) _ (sym e)) refl
 
 plus_then : (es : Elements) (t : Tree) (ws rest : List (List ℕ)) (word : List ℕ) → terms t < 32 → ◌≡◌ {A = Option (List ℕ × List (List ℕ))} (Some (word, rest)) (next_term ws) →
-    read_more es t ws ≡ (read_term es word >>= λ u. read_more es (sum t u) rest)
+    read_more es t ws ≡ (read_term es word >>= λ u. read_more es (binary Add t u) rest)
 plus_then es t [] rest word n e = absurd (cc)
 plus_then es t (mark ∷ []) rest word n e = absurd (cc)
 plus_then es t (mark ∷ next ∷ more) rest word n e =
@@ -34,11 +34,11 @@ plus_then es t (mark ∷ next ∷ more) rest word n e =
 
 pub plus_no_term : (es : Elements) (t : Tree) (ws rest : List (List ℕ)) (word : List ℕ) → terms t < 32 → ◌≡◌ {A = Option (List ℕ × List (List ℕ))} (Some (word, rest)) (next_term ws) →
     None ≡ read_term es word → read_more es t ws ≡ None
-plus_no_term es t ws rest word n e none = plus_then es t ws rest word n e ∙ ap (λ o. o >>= λ u. read_more es (sum t u) rest) (sym none)
+plus_no_term es t ws rest word n e none = plus_then es t ws rest word n e ∙ ap (λ o. o >>= λ u. read_more es (binary Add t u) rest) (sym none)
 
 pub plus_term : (es : Elements) (t u : Tree) (ws rest : List (List ℕ)) (word : List ℕ) → terms t < 32 → ◌≡◌ {A = Option (List ℕ × List (List ℕ))} (Some (word, rest)) (next_term ws) →
-    Some u ≡ read_term es word → read_more es t ws ≡ read_more es (sum t u) rest
-plus_term es t u ws rest word n e some = plus_then es t ws rest word n e ∙ ap (λ o. o >>= λ v. read_more es (sum t v) rest) (sym some)
+    Some u ≡ read_term es word → read_more es t ws ≡ read_more es (binary Add t u) rest
+plus_term es t u ws rest word n e some = plus_then es t ws rest word n e ∙ ap (λ o. o >>= λ v. read_more es (binary Add t v) rest) (sym some)
 
 pub too_many : (es : Elements) (t : Tree) (ws : List (List ℕ)) → 32 ≤ terms t → 0 < length ws → read_more es t ws ≡ None
 too_many es t [] n l = absurd (omega arith)

@@ -6,7 +6,7 @@ use Rattle.thin_form.specs.Words.{without_back}
 use Rattle.form_meaning.specs.Thin.{Elements, terms}
 use Rattle.py_tree.specs.Names.{Name, is_name}
 use Rattle.py_tree.specs.Numbers.{is_number}
-use Rattle.py_tree.specs.Trees.{Tree, literal, name, sum, attribute}
+use Rattle.py_tree.specs.Trees.{Tree, literal, name, binary, Add, attribute}
 use Rattle.py_tree.specs.declared.token.TokenKind.TheVariants as kind
 
 abbrev pub numeral : List ℕ → Tree
@@ -35,7 +35,7 @@ abbrev pub read_more : Elements → Tree → List (List ℕ) → Option Tree
 read_more es t [] = Some t
 read_more es t (mark ∷ []) = None
 read_more es t (mark ∷ word ∷ rest) =
-    if bytes_eq mark (codes "+") && nat_lt (terms t) 32 then (read_term es word >>= λ u. read_more es (sum t u) rest) else None
+    if bytes_eq mark (codes "+") && nat_lt (terms t) 32 then (read_term es word >>= λ u. read_more es (binary Add t u) rest) else None
 
 abbrev pub read_sum : Elements → List (List ℕ) → Option Tree
 read_sum es [] = None

@@ -122,5 +122,5 @@ fn read_import(text: &str, elements: &SliderNames) -> Option<Line>
 fn is_call(tree: &Expr) -> bool
     ensures { result ≡ reading.is_call (view tree.now) }
 {
-    matches!(tree, Expr::Call(_, _))
+    matches!(tree, Expr::Call { .. })
 }

@@ -5,7 +5,7 @@ ghost use Rattle.thin_form.specs.Sums as reading;
 ghost use Rattle.py_tree.specs.Trees as pure;
 ghost use Rattle.py_tree.specs.View.{view};
 
-use py_tree::{Expr, Row, Spelling, Token, TokenKind};
+use py_tree::{Argument, Expr, Row, Spelling, Token, TokenKind};
 use py_value::Memory;
 use sqlite_items::Boxed;
 use std::alloc::Global;
@@ -33,9 +33,9 @@ pub fn numeral(alloc: Global, word: &str) -> Result<Expr, Memory>
 
 // The sum of the two.
 pub fn sum(alloc: Global, left: Expr, right: Expr) -> Result<Expr, Memory>
-    ensures { IfOk result (λ e. view e ≡ pure.sum (view left) (view right)) }
+    ensures { IfOk result (λ e. view e ≡ pure.binary pure.Add (view left) (view right)) }
 {
-    Ok(Expr::Sum(Boxed::new(alloc, left)?, Boxed::new(alloc, right)?))
+    Ok(Expr::Add(Boxed::new(alloc, left)?, Boxed::new(alloc, right)?))
 }
 
 // `BASE.WORD`
@@ -50,9 +50,13 @@ pub fn slider(alloc: Global, low: &str, high: &str) -> Result<Expr, Memory>
     ensures { IfOk result (λ e. view e ≡ slider (record { low = low.now; high = high.now })) }
 {
     let mut bounds = Vec::new(alloc);
-    bounds.push(numeral(alloc, low)?)?;
-    bounds.push(numeral(alloc, high)?)?;
-    Ok(Expr::Call(Boxed::new(alloc, maker(alloc)?)?, Row::of(bounds)))
+    bounds.push(Argument::Positional(numeral(alloc, low)?))?;
+    bounds.push(Argument::Positional(numeral(alloc, high)?))?;
+    Ok(Expr::Call {
+        callee: Boxed::new(alloc, maker(alloc)?)?,
+        arguments: Row::of(bounds),
+        comma: false,
+    })
 }
 
 // `mo.ui.slider`

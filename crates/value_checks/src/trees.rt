@@ -1,6 +1,6 @@
 // Trees of expressions.
 ghost use Rattle.std.specs.Prelude.{◌≡◌, IfOk};
-ghost use Rattle.py_tree.specs.Trees.{literal, name, sum};
+ghost use Rattle.py_tree.specs.Trees.{literal, name, binary, Add};
 ghost use Rattle.py_tree.specs.View.{view};
 ghost use Rattle.py_tree.specs.declared.token.TokenKind.TheVariants as kind;
 
@@ -38,8 +38,8 @@ pub fn named(alloc: Global, text: &str) -> Result<Expr, Memory>
 }
 
 pub fn added(alloc: Global, left: Expr, right: Expr) -> Result<Expr, Memory>
-    ensures { IfOk result (λ e. view e ≡ sum (view left) (view right)) }
+    ensures { IfOk result (λ e. view e ≡ binary Add (view left) (view right)) }
 {
     let left = boxed(alloc, left)?;
-    Ok(Expr::Sum(left, boxed(alloc, right)?))
+    Ok(Expr::Add(left, boxed(alloc, right)?))
 }
