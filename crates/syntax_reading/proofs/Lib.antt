@@ -2,3 +2,12 @@ pub mod Binding
 pub mod Shaped
 pub mod Spelling
 pub mod WordLaws
+pub mod Choices
+pub mod ItemsFound
+pub mod SpellingLaws
+pub mod EachFound
+pub mod Lists
+pub mod FoundParts
+pub mod FoundAtoms
+pub mod FoundLevels
+pub mod Following

@@ -33,13 +33,13 @@ before_nil (t ∷ ts) = ap (λ ws. word_of t ∷ ws) (before_nil ts)
 -- all of them, in the order of their numbers
 abbrev all_fixed : List Fixed
 all_fixed =
-    if_ ∷ else_ ∷ or_ ∷ and_ ∷ not_ ∷ in_ ∷ is_ ∷ for_ ∷ elif_ ∷ while_ ∷ def_ ∷ return_ ∷ pass_ ∷ break_ ∷ continue_ ∷ import_ ∷ as_ ∷ with_ ∷ plus ∷
-    minus ∷ star ∷ stars ∷ slashes ∷ percent ∷ equal ∷ unequal ∷ less ∷ at_most ∷ greater ∷ at_least ∷ assign ∷ add_to ∷ subtract_from ∷
-    multiply_by ∷ floor_by ∷ remainder_by ∷ round_open ∷ round_close ∷ square_open ∷ square_close ∷ brace_open ∷ brace_close ∷ comma ∷ colon ∷ dot ∷
-    at_sign ∷ []
+    is.if_ ∷ is.else_ ∷ is.or_ ∷ is.and_ ∷ is.not_ ∷ is.in_ ∷ is.is_ ∷ is.for_ ∷ is.elif_ ∷ is.while_ ∷ is.def_ ∷ is.return_ ∷ is.pass_ ∷ is.break_ ∷ is.continue_ ∷ is.import_ ∷ is.as_ ∷ is.with_ ∷ is.plus ∷
+    is.minus ∷ is.star ∷ is.stars ∷ is.slashes ∷ is.percent ∷ is.equal ∷ is.unequal ∷ is.less ∷ is.at_most ∷ is.greater ∷ is.at_least ∷ is.assign ∷ is.add_to ∷ is.subtract_from ∷
+    is.multiply_by ∷ is.floor_by ∷ is.remainder_by ∷ is.round_open ∷ is.round_close ∷ is.square_open ∷ is.square_close ∷ is.brace_open ∷ is.brace_close ∷ is.comma ∷ is.colon ∷ is.dot ∷
+    is.at_sign ∷ []
 
 abbrev at_place : List Fixed → ℕ → Fixed
-at_place [] n = if_
+at_place [] n = is.if_
 at_place (f ∷ fs) zero = f
 at_place (f ∷ fs) (suc n) = at_place fs n
 
