@@ -11,3 +11,6 @@ pub mod FoundParts
 pub mod FoundAtoms
 pub mod FoundLevels
 pub mod Following
+pub mod ItemsOnly
+pub mod OnlyAtoms
+pub mod OnlyLevels
