@@ -1,17 +1,11 @@
 -- Tokens that are an expression.
-use Rattle.std.specs.Prelude.{◌≡◌, ℕ, ◌≤◌, List, [], ◌∷◌, ⊤}
+use Rattle.std.specs.Prelude.{◌≡◌, ℕ, ◌≤◌, List}
 use Rattle.py_tree.specs.Expressions.{Tree}
-use Rattle.lexical_form.specs.Longest.{Stands}
 use Rattle.lexical_form.specs.Tokens.{Token}
 use Rattle.syntax_form.specs.Depth.{depth}
 use Rattle.syntax_form.specs.Levelled.{Levelled}
 use Rattle.syntax_form.specs.Levels.{level}
 use Rattle.syntax_form.specs.Printing.{tokens}
-
--- each is spelled as a token of its kind
-abbrev pub AreTokens : List Token → Type 0
-AreTokens [] = ⊤
-AreTokens (t ∷ ts) = Stands t [] × AreTokens ts
 
 -- these tokens are this expression, at most this deep
 pub record IsExpression (limit : ℕ) (ts : List Token) (t : Tree) : Type 0 where

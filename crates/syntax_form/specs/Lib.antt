@@ -6,3 +6,4 @@ pub mod Levels
 pub mod Literals
 pub mod Printing
 pub mod Shapes
+pub mod SpelledTokens

@@ -20,7 +20,7 @@ use Rattle.syntax_reading.specs.Words.{literal_of, is_none_spelled, is_free, may
 use Rattle.syntax_reading.specs.Readers.{Read, Reader, ◌>>=◌, choose, on_table, on, guarded, Closing, by, at_end, on_closing, is_some}
 use Rattle.syntax_reading.specs.Items.{after_item, items, items_on, each}
 use Rattle.syntax_reading.specs.Tables.{Level, E1, E2, E3, E4, E6, E7, E8, least, operator_at, deeper, prefix_at, comparison_of, Tail, Call, Index, Attribute, tail_of, Bracket, Round, Square, Brace, bracket_of, first_comparison, first_name, first_if, then_assign, first_keyword, on_none, some_names, targets, Argument, plain, named, arguments_of, all_named, named_last, pairs_of, links_of, tests_of}
-use Rattle.syntax_reading.specs.Reading.{nothing_left, token_list, with_field, alone, argument, key_item, clause, round, square, brace, bracketed, parts, with_parts, atom, slice_end, indexed, called, tailed, tails, postfix, powers, prefixes, turns, operations, is_tail, chained, compared, whole, level_8, level_7, level_6, level_5, level_4, level_3, level_2, level_1, at_level, read}
+use Rattle.syntax_reading.specs.Reading.{nothing_left, with_field, alone, argument, key_item, clause, round, square, brace, bracketed, parts, with_parts, atom, slice_end, indexed, called, tailed, tails, postfix, powers, prefixes, turns, operations, is_tail, chained, compared, whole, level_8, level_7, level_6, level_5, level_4, level_3, level_2, level_1, at_level, read}
 use Rattle.syntax_reading.proofs.Shaped.{PiecesShaped, IsFree, AreFree, AreFreeTargets, Shaped, AllShaped, LinksShaped, ArgumentsShaped, PairsShaped, BoundShaped}
 use Rattle.syntax_reading.proofs.Spelling.{closes, closed, spell_more, spell_all, spell_name, spell_names, operator_word, prefix_word, comparison_then, is_then, spell, spell_list, spell_later, spell_links, spell_arguments, spell_pairs, spell_tests, spell_bound}
 use Rattle.syntax_reading.proofs.WordLaws.{before, before_nil, words_same}

@@ -14,3 +14,4 @@ pub mod Following
 pub mod ItemsOnly
 pub mod OnlyAtoms
 pub mod OnlyLevels
+pub mod Regrouping
