@@ -15,3 +15,5 @@ pub mod ItemsOnly
 pub mod OnlyAtoms
 pub mod OnlyLevels
 pub mod Regrouping
+pub mod LevelledLaws
+pub mod ExpressionLaws

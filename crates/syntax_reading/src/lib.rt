@@ -1,2 +1,6 @@
-//! Reading.
+//! A reader of expressions, as functions from tokens, and its laws. No definition of the language speaks of it.
 #![tactic(auto)]
+
+mod laws;
+
+pub use laws::{expressions_are_read, spelled_once};
