@@ -1,4 +1,4 @@
 -- For every reader of tokens.
 pub mod TokenLaws
--- For `lines_of_tokens`.
-mod LineTokens
+-- For `lines_of_tokens`, and for worked examples of readers.
+pub mod LineTokens

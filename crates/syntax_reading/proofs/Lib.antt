@@ -17,3 +17,4 @@ pub mod OnlyLevels
 pub mod Regrouping
 pub mod LevelledLaws
 pub mod ExpressionLaws
+pub mod WorkedRows

@@ -3,3 +3,5 @@ pub mod Readers
 pub mod Reading
 pub mod Tables
 pub mod Words
+pub mod Worked
+pub mod WorkedExpressions

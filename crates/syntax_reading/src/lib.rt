@@ -2,5 +2,7 @@
 #![tactic(auto)]
 
 mod laws;
+mod worked;
 
 pub use laws::{expressions_are_read, spelled_once};
+pub use worked::worked_expressions;
