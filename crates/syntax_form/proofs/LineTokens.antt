@@ -1,5 +1,5 @@
 -- The tokens of logical lines are spelled as tokens.
-use Rattle.std.proofs.Common.{◌≡◌, ℕ, Bool, true, false, List, [], ◌∷◌, ◌++◌, sym, subst}
+use Rattle.std.proofs.Common.{ℕ, Bool, true, false, List, [], ◌∷◌, ◌++◌, sym, subst}
 use Rattle.std.specs.Prelude.{if◌then◌else◌}
 use Rattle.lexical_form.specs.Bytes.{is_empty}
 use Rattle.lexical_form.specs.LogicalLines.{Line, line_of, lines_ended, MayStand, IsMadeOf, Spelled}

@@ -1,19 +1,19 @@
 -- Tokens that are spelled as tokens: parts of lists of them, tokens that stand before something, and those in the fields of f-texts.
-use Rattle.std.proofs.Common.{◌≡◌, ℕ, Bool, true, false, List, [], ◌∷◌, ◌++◌, Option, Some, None, refl, sym, ap, subst, ◌∙◌}
+use Rattle.std.proofs.Common.{◌≡◌, ℕ, Bool, true, false, List, [], ◌∷◌, ◌++◌, refl, sym, ap, subst}
 use Rattle.std.specs.Prelude.{not, ◌&&◌, ⊤}
 use Rattle.py_tree.specs.Names.{continues_name, is_spelled_name}
 use Rattle.lexical_form.specs.Tokens as kind
 use Rattle.lexical_form.specs.Tokens.{Token, token, tokens_of, Piece, pieces_of}
 use Rattle.lexical_form.specs.Bytes.{is_empty, is_quote, starts}
 use Rattle.lexical_form.specs.Numbers.{is_number}
-use Rattle.lexical_form.specs.Texts.{Quotes, Text, Item, AreItems, is_text, repeated}
+use Rattle.lexical_form.specs.Texts.{Quotes, Text, Item, AreItems, repeated}
 use Rattle.lexical_form.specs.Plain as plains
 use Rattle.lexical_form.specs.Plain.{PlainKind, Plain, CanStandAs, is_prefix}
 use Rattle.lexical_form.specs.Cuts.{Cuts}
 use Rattle.lexical_form.specs.Fields.{Field, FieldItem, plain_token, blank, field_item_spelling, FieldFits, open_behind, IsField, field_text, field_tail}
-use Rattle.lexical_form.specs.FTexts.{FText, FPart, of_text, brace, a_field, IsFPart, IsFText, kind_of, token_of, field_tokens, field_piece, characters_piece, f_part_characters, field_of, cut_at_field, pieces_behind, f_text_pieces}
+use Rattle.lexical_form.specs.FTexts.{FText, FPart, of_text, brace, a_field, IsFPart, kind_of, field_tokens, field_piece, characters_piece, f_part_characters, field_of, cut_at_field, pieces_behind}
 use Rattle.lexical_form.specs.Longest.{Stands}
-use Rattle.lexical_form.proofs.Basics.{and_left, and_right, both}
+use Rattle.lexical_form.proofs.Basics.{and_left, both}
 use Rattle.syntax_form.specs.SpelledTokens.{AreTokens, token_list}
 
 pub tokens_before : (us vs : List Token) → AreTokens (us ++ vs) → AreTokens us

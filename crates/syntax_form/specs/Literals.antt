@@ -1,5 +1,5 @@
 -- Names, literals and f-texts, spelled as such (Python language reference, sections 2.3 and 2.4).
-use Rattle.std.specs.Prelude.{◌≡◌, ℕ, IsTrue, List, [], ◌∷◌, codes, ⊤}
+use Rattle.std.specs.Prelude.{◌≡◌, ℕ, IsTrue, List, [], ◌∷◌, codes}
 use Rattle.py_tree.specs.Names.{Name, is_among, is_identifier}
 use Rattle.py_tree.specs.declared.token.TokenKind.{TokenKind}
 use Rattle.py_tree.specs.declared.token.TokenKind.TheVariants as kind

@@ -1,11 +1,9 @@
 -- Which way a choice went, where it gave something.
-use Rattle.std.proofs.Common.{◌≡◌, ℕ, ◌<◌, ◌⊎◌, inl, inr, Bool, true, false, cond, List, [], ◌∷◌, ◌++◌, Option, Some, None, refl, sym, ap, ◌∙◌, subst, nat_lt, arith}
+use Rattle.std.proofs.Common.{◌≡◌, ℕ, ◌<◌, ◌⊎◌, inl, inr, Bool, true, false, List, [], ◌∷◌, Option, Some, None, refl, sym, ap, ◌∙◌, nat_lt, arith}
 use Rattle.std.specs.Prelude.{if◌then◌else◌}
 use Rattle.std.proofs.lemmas.Bool.Decides.{nat_tests}
-use Rattle.syntax_reading.specs.Words as is
-use Rattle.syntax_reading.specs.Words.{Fixed, same, Word, name, literal, f_text, fixed, other, is_none_literal}
-use Rattle.syntax_reading.specs.Readers.{Read, Reader, ◌>>=◌, choose, with_rest, on_table, is_word, on, guarded, Closing, by, at_end, at_nothing, on_closing}
-use Rattle.syntax_reading.specs.Tables.{on_none}
+use Rattle.syntax_reading.specs.Words.{Fixed, same, Word, fixed}
+use Rattle.syntax_reading.specs.Readers.{Read, Reader, ◌>>=◌, choose, with_rest, on_table, is_word, on, guarded, Closing, by, at_end, on_closing}
 use Rattle.syntax_reading.proofs.Spelling.{closes}
 use Rattle.syntax_reading.proofs.WordLaws.{same_is}
 

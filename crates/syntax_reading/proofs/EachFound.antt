@@ -1,8 +1,8 @@
 -- What is repeated as often as it begins: what reading gives is spelled so.
-use Rattle.std.proofs.Common.{◌≡◌, ℕ, zero, suc, ◌⊎◌, inl, inr, List, [], ◌∷◌, ◌++◌, Option, Some, None, refl, sym, ap, ◌∙◌, subst, append_assoc, append-nil, arith}
+use Rattle.std.proofs.Common.{◌≡◌, ℕ, zero, suc, inl, inr, List, [], ◌∷◌, ◌++◌, Some, sym, ap, ◌∙◌, subst, append_assoc, append-nil}
 use Rattle.py_tree.specs.Expressions.{Tree}
 use Rattle.syntax_reading.specs.Words.{Word}
-use Rattle.syntax_reading.specs.Readers.{Read, Reader, ◌>>=◌, choose}
+use Rattle.syntax_reading.specs.Readers.{Reader, ◌>>=◌}
 use Rattle.syntax_reading.specs.Items.{each}
 use Rattle.syntax_reading.proofs.Spelling.{spell}
 use Rattle.syntax_reading.proofs.Choices.{bind_ok, choose_ok}
@@ -38,7 +38,8 @@ module _ {B : Type 0} (start : Reader B) (inner : Reader Tree) (begin : B → Li
               new = (b, t) ∷ m.new;
               all = m.all ∙ append_assoc found ((b, t) ∷ []) m.new;
               good = (s.1, m.good);
-              spelled = began ts c.0 c.1 ∙ ap (begin b) (s.0 ∙ ap (spell t) m.spelled) })
+              spelled = began ts c.0 c.1 ∙ ap (begin b) (s.0 ∙ ap (spell t) m.spelled);
+            })
         | inr o ↦ (
             let last = o.1 in
             let is : found ≡ y.0 = cc (last) in

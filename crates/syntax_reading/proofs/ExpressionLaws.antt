@@ -1,5 +1,5 @@
 -- Reading gives the expression that tokens are, and only that one.
-use Rattle.std.proofs.Common.{◌≡◌, ℕ, ◌≤◌, max, List, [], ◌∷◌, Option, Some, None, refl, sym, ap, ◌∙◌, subst, arith}
+use Rattle.std.proofs.Common.{◌≡◌, ℕ, ◌≤◌, max, List, [], ◌∷◌, Some, None, refl, sym, ap, ◌∙◌, subst, arith}
 use Rattle.py_tree.specs.Expressions.{Tree}
 use Rattle.lexical_form.specs.Tokens.{Token}
 use Rattle.syntax_form.specs.Depth.{depth}

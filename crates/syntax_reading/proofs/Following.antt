@@ -1,20 +1,17 @@
 -- Which word may follow a tree, and what a tree begins with.
-use Rattle.std.proofs.Common.{◌≡◌, ℕ, zero, suc, ◌+◌, ◌<◌, ◌≤◌, ◌==◌, ◌⊎◌, inl, inr, Bool, true, false, cond, List, [], ◌∷◌, ◌++◌, length, Option, Some, None, refl, sym, ap, ◌∙◌, subst, nat_lt, arith}
-use Rattle.std.specs.Prelude.{if◌then◌else◌, option_map}
+use Rattle.std.proofs.Common.{◌≡◌, ℕ, ◌+◌, ◌<◌, ◌≤◌, Bool, true, false, List, [], ◌∷◌, length, Option, Some, None, refl, ap, ◌∙◌, subst, nat_lt, arith}
 use Rattle.std.proofs.lemmas.Bool.Decides.{nat_tests}
 use Rattle.py_tree.specs.Expressions as form
 use Rattle.syntax_reading.specs.Words as is
 use Rattle.py_tree.specs.Names.{Name}
 use Rattle.py_tree.specs.Expressions.{Pieces, no_piece, characters, field, Operator, Prefix, Comparison, Tree, conditional, binary, prefixed, chain, is_none, power, call, index, slice, attribute, paren, tuple, list, dict, list_of, dict_of, bare, Trees, none, more, Links, done, link, Arguments, no_argument, positional, keyword, Pairs, no_pair, pair, Bound, left_out, at}
-use Rattle.syntax_form.specs.Depth.{depth}
 use Rattle.syntax_form.specs.Levels.{operator_level, prefix_level, level}
 use Rattle.syntax_reading.specs.Words.{literal_of, is_none_spelled, is_free, Fixed, code, same, Word, name, literal, f_text, fixed}
 use Rattle.syntax_reading.specs.Readers.{Read, Reader, choose, with_rest, on_table, is_word, on, guarded, Closing, by, at_end, on_closing}
-use Rattle.syntax_reading.specs.Tables.{Level, E1, E2, E3, E4, E6, E7, E8, least, operator_at, prefix_at, comparison_of, Tail, Call, Index, Attribute, tail_of, first_comparison, first_if, first_keyword, then_assign}
+use Rattle.syntax_reading.specs.Tables.{Level, E1, E2, E3, E4, E6, E7, E8, least, operator_at, prefix_at, comparison_of, Tail, tail_of, first_comparison, first_if, first_keyword, then_assign}
 use Rattle.syntax_reading.proofs.Binding.{binding, binds, opening, opens}
-use Rattle.syntax_reading.proofs.Shaped.{PiecesShaped, Shaped}
+use Rattle.syntax_reading.proofs.Shaped.{Shaped}
 use Rattle.syntax_reading.proofs.Spelling.{closes, closed, spell_more, spell_all, spell_name, operator_word, prefix_word, comparison_then, is_then, spell, spell_list, spell_later, spell_links, spell_arguments, spell_later_arguments, spell_pairs, spell_later_pairs, spell_tests, spell_bound}
-use Rattle.syntax_reading.proofs.WordLaws.{same_is}
 use Rattle.syntax_reading.proofs.Choices.{is_word_is, Ends}
 use Rattle.syntax_reading.proofs.FoundParts.{operator_listed, prefix_listed}
 

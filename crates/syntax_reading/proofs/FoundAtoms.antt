@@ -1,37 +1,29 @@
 -- Atoms: what reading gives is spelled so, and the grammar has it.
-use Rattle.std.proofs.Common.{◌≡◌, ℕ, zero, suc, ◌+◌, ◌<◌, ◌≤◌, max, ◌⊎◌, inl, inr, Bool, true, false, not, ◌&&◌, cond, IsTrue, List, [], ◌∷◌, ◌++◌, length, Option, Some, None, refl, sym, ap, ◌∙◌, subst, nat_lt, append_assoc, append-nil, arith}
-use Rattle.std.specs.Prelude.{if◌then◌else◌, option_map}
-use Rattle.std.proofs.lemmas.Bool.Decides.{nat_tests}
+use Rattle.std.proofs.Common.{◌≡◌, ℕ, suc, ◌+◌, ◌≤◌, inl, inr, Bool, true, false, List, [], ◌∷◌, length, Option, Some, None, refl, sym, ap, ◌∙◌, subst, arith}
+use Rattle.std.specs.Prelude.{option_map}
 use Rattle.lexical_form.specs.Tokens as kind
-use Rattle.py_tree.specs.declared.token.Token as literals
-use Rattle.py_tree.specs.declared.token.TokenKind.{TokenKind}
-use Rattle.py_tree.specs.declared.token.TokenKind.TheVariants as literal_kind
-use Rattle.py_tree.specs.FieldFormats.{Convert, Spec}
 use Rattle.py_tree.specs.Expressions as form
 use Rattle.syntax_reading.specs.Words as is
 use Rattle.py_tree.specs.Names.{Name}
 use Rattle.py_tree.specs.Expressions.{Pieces, no_piece, characters, field, Operator, Prefix, Comparison, Tree, conditional, binary, prefixed, chain, is_none, power, call, index, slice, attribute, paren, tuple, list, dict, list_of, dict_of, bare, Trees, none, more, Links, done, link, Arguments, no_argument, positional, keyword, Pairs, no_pair, pair, Bound, left_out, at, trees_of}
 use Rattle.lexical_form.specs.Tokens.{Token, token, tokens_of}
 use Rattle.syntax_form.specs.Printing.{tokens, token_pieces}
-use Rattle.syntax_form.specs.Depth.{piece_depth, depth, list_depth, link_depth, argument_depth, pair_depth, bound_depth}
-use Rattle.syntax_form.specs.Levels.{operator_level, prefix_level, level}
-use Rattle.syntax_form.specs.Shapes.{CommaBehind, IsTuple, CommaBehindPairs, CommaBehindArguments, NamedLast}
+use Rattle.syntax_form.specs.Depth.{piece_depth}
+use Rattle.syntax_form.specs.Shapes.{IsTuple}
 use Rattle.syntax_form.specs.SpelledTokens.{token_list}
-use Rattle.syntax_form.proofs.TokenLaws.{list_of_tokens}
 use Rattle.syntax_reading.specs.Words.{literal_of, is_none_spelled, is_free, may_be_literal, Fixed, Word, name, literal, f_text, fixed, other, word_of, words, none_literal, is_none_literal}
-use Rattle.syntax_reading.specs.Readers.{Read, Reader, ◌>>=◌, choose, on_table, on, guarded, Closing, by, at_end, on_closing, is_some}
-use Rattle.syntax_reading.specs.Items.{after_item, items, items_on, each}
-use Rattle.syntax_reading.specs.Tables.{Level, E1, E2, E3, E4, E6, E7, E8, least, operator_at, deeper, prefix_at, comparison_of, Tail, Call, Index, Attribute, tail_of, Bracket, Round, Square, Brace, bracket_of, first_comparison, first_name, first_if, then_assign, first_keyword, on_none, some_names, targets, Argument, plain, named, arguments_of, all_named, named_last, pairs_of, links_of, tests_of}
-use Rattle.syntax_reading.specs.Reading.{nothing_left, with_field, alone, argument, key_item, clause, round, square, brace, bracketed, parts, with_parts, atom, slice_end, indexed, called, tailed, tails, postfix, powers, prefixes, turns, operations, is_tail, chained, compared, whole, level_8, level_7, level_6, level_5, level_4, level_3, level_2, level_1, at_level, read}
-use Rattle.syntax_reading.proofs.Shaped.{PiecesShaped, IsFree, AreFree, AreFreeTargets, Shaped, AllShaped, LinksShaped, ArgumentsShaped, PairsShaped, BoundShaped}
-use Rattle.syntax_reading.proofs.Spelling.{closes, closed, spell_more, spell_all, spell_name, spell_names, operator_word, prefix_word, comparison_then, is_then, spell, spell_list, spell_later, spell_links, spell_arguments, spell_pairs, spell_tests, spell_bound}
-use Rattle.syntax_reading.proofs.WordLaws.{before, before_nil, words_same}
-use Rattle.syntax_reading.proofs.Choices.{bind_ok, guarded_ok, lt_of, choose_ok, Hit, on_table_ok, Took, on_ok, on_only_ok, on_closing_ok, Ends}
-use Rattle.syntax_reading.proofs.ItemsFound.{AllGood, IsItem, All, items_all, items_on_all, items_later_all, is_many, ClosesApart, items_many}
+use Rattle.syntax_reading.specs.Readers.{Read, Reader, ◌>>=◌, on, by}
+use Rattle.syntax_reading.specs.Items.{items, items_on}
+use Rattle.syntax_reading.specs.Tables.{Level, E1, Bracket, Round, Square, Brace, bracket_of, pairs_of}
+use Rattle.syntax_reading.specs.Reading.{nothing_left, with_field, alone, key_item, clause, round, square, brace, bracketed, parts, with_parts, atom}
+use Rattle.syntax_reading.proofs.Shaped.{PiecesShaped}
+use Rattle.syntax_reading.proofs.Spelling.{spell_names, spell, spell_tests}
+use Rattle.syntax_reading.proofs.WordLaws.{before_nil, words_same}
+use Rattle.syntax_reading.proofs.Choices.{bind_ok, guarded_ok, on_table_ok, on_ok, on_only_ok}
+use Rattle.syntax_reading.proofs.ItemsFound.{items_on_all, items_later_all, is_many, ClosesApart, items_many}
 use Rattle.syntax_reading.proofs.SpellingLaws.{spell_is}
-use Rattle.syntax_reading.proofs.EachFound.{spell_each, each_all}
-use Rattle.syntax_reading.proofs.Lists.{Fits, list_of_items, all_shaped, comma_behind, spell_pair, PairFits, pairs_of_items, pairs_shaped, pair_comma, spell_argument, ArgumentFits, arguments_of_items, arguments_shaped, argument_comma, named_are_last, are_names, are_targets, links_of_each, links_shaped, if_then, tests_of_each, tests_shaped}
-use Rattle.syntax_reading.proofs.FoundParts.{Found, IsSound, Sound, operator_listed, prefix_listed, comparison_began, name_found, targets_found, ends, from, lower, tree_item, argument_item, pair_item, Clause, clause_found}
+use Rattle.syntax_reading.proofs.Lists.{Fits, list_of_items, all_shaped, comma_behind, spell_pair, PairFits, pairs_of_items, pairs_shaped, pair_comma}
+use Rattle.syntax_reading.proofs.FoundParts.{Found, IsSound, ends, from, tree_item, pair_item, clause_found}
 
 pub round_apart : ClosesApart (by is.round_close)
 round_apart us rest n e = cc
@@ -107,7 +99,7 @@ module _ (inner : Level → Reader Tree) (below : ℕ) (ih : IsSound inner below
                   let p = q.0.0 in
                   let k = on_only_ok is.square_close (λ xs. Some (list_of t p.0 p.1 p.2, xs)) q.0.1 y q.2 in
                   let tail : c.0 ≡ spell_names p.0 is.in_ (spell p.1 (spell_tests p.2 (fixed is.square_close ∷ k.0))) =
-                      d.spelled ∙ ap (λ us. spell_names p.0 is.in_ (spell p.1 (spell_tests p.2 us))) k.1 in
+                  d.spelled ∙ ap (λ us. spell_names p.0 is.in_ (spell p.1 (spell_tests p.2 us))) k.1 in
                   let s = f.fits.shallow in
                   let u = d.from_fits.shallow in
                   let v = d.shallow in
@@ -151,7 +143,7 @@ module _ (inner : Level → Reader Tree) (below : ℕ) (ih : IsSound inner below
                   let p = q.0.0 in
                   let k = on_only_ok is.brace_close (λ xs. Some (dict_of t.0 t.1 p.0 p.1 p.2, xs)) q.0.1 y q.2 in
                   let tail : c.0 ≡ spell_names p.0 is.in_ (spell p.1 (spell_tests p.2 (fixed is.brace_close ∷ k.0))) =
-                      d.spelled ∙ ap (λ us. spell_names p.0 is.in_ (spell p.1 (spell_tests p.2 us))) k.1 in
+                  d.spelled ∙ ap (λ us. spell_names p.0 is.in_ (spell p.1 (spell_tests p.2 us))) k.1 in
                   let s = fk.shallow in
                   let s' = fi.shallow in
                   let u = d.from_fits.shallow in
@@ -223,7 +215,8 @@ module _ (inner : Level → Reader Tree) (below : ℕ) (ih : IsSound inner below
           subst (Parts (kind.piece (kind.field ts convert spec) fs)) same (record {
             spelled = ap (λ x. kind.piece (kind.field x convert spec) fs) own ∙ ap (kind.piece (kind.field (tokens_of (tokens t)) convert spec)) r.spelled;
             shaped = (a.1.high, a.1.shaped, r.shaped);
-            shallow = omega arith })
+            shallow = omega arith;
+          })
 
   f_text_found : (cs : List ℕ) (fs : kind.Pieces) (ts : List Word) (y : Tree × List Word) → with_parts inner room cs ts (parts inner room fs) ≡ Some y →
       Found 11 room (f_text cs fs ∷ ts) y.0 y.1

@@ -1,36 +1,28 @@
 -- The levels: what reading gives is spelled so, and the grammar has it.
-use Rattle.std.proofs.Common.{◌≡◌, ℕ, zero, suc, ◌+◌, ◌<◌, ◌≤◌, max, ◌⊎◌, inl, inr, Bool, true, false, not, ◌&&◌, cond, codes, IsTrue, List, [], ◌∷◌, ◌++◌, length, Option, Some, None, refl, sym, ap, ◌∙◌, subst, nat_lt, append_assoc, append-nil, arith}
-use Rattle.std.specs.Prelude.{if◌then◌else◌, option_map}
-use Rattle.std.proofs.lemmas.Bool.Decides.{nat_tests}
+use Rattle.std.proofs.Common.{◌≡◌, ℕ, zero, suc, ◌+◌, ◌<◌, ◌≤◌, inl, inr, Bool, true, false, codes, List, [], ◌∷◌, length, Some, None, refl, sym, ap, ◌∙◌, nat_lt, arith}
+use Rattle.std.specs.Prelude.{if◌then◌else◌}
 use Rattle.std.proofs.lemmas.Slice.Eq.{bytes_eq-Decides}
-use Rattle.lexical_form.specs.Tokens as kind
 use Rattle.py_tree.specs.declared.token.Token as literals
 use Rattle.py_tree.specs.declared.token.TokenKind.{TokenKind}
 use Rattle.py_tree.specs.declared.token.TokenKind.TheVariants as literal_kind
-use Rattle.py_tree.specs.FieldFormats.{Convert, Spec}
-use Rattle.py_tree.specs.Expressions as form
 use Rattle.syntax_reading.specs.Words as is
 use Rattle.py_tree.specs.Names.{Name}
-use Rattle.py_tree.specs.Expressions.{Pieces, no_piece, characters, field, Operator, Prefix, Comparison, Tree, conditional, binary, prefixed, chain, is_none, power, call, index, slice, attribute, paren, tuple, list, dict, list_of, dict_of, bare, Trees, none, more, Links, done, link, Arguments, no_argument, positional, keyword, Pairs, no_pair, pair, Bound, left_out, at, trees_of}
-use Rattle.lexical_form.specs.Tokens.{Token, token, tokens_of}
-use Rattle.syntax_form.specs.Printing.{tokens, token_pieces}
-use Rattle.syntax_form.specs.Depth.{piece_depth, depth, list_depth, link_depth, argument_depth, pair_depth, bound_depth}
+use Rattle.py_tree.specs.Expressions.{Operator, Prefix, Comparison, Tree, conditional, binary, prefixed, chain, is_none, power, call, index, slice, attribute, Bound, left_out, at}
+use Rattle.syntax_form.specs.Depth.{depth, bound_depth}
 use Rattle.syntax_form.specs.Levels.{operator_level, prefix_level, level}
-use Rattle.syntax_form.specs.Shapes.{CommaBehind, IsTuple, CommaBehindPairs, CommaBehindArguments, NamedLast}
 use Rattle.syntax_reading.specs.Words.{literal_of, is_none_spelled, is_free, may_be_literal, Fixed, Word, name, literal, f_text, fixed, other, word_of, words, none_literal, is_none_literal}
-use Rattle.syntax_reading.specs.Readers.{Read, Reader, ◌>>=◌, choose, on_table, on, guarded, Closing, by, at_end, on_closing, is_some}
-use Rattle.syntax_reading.specs.Items.{after_item, items, items_on, each}
-use Rattle.syntax_reading.specs.Tables.{Level, E1, E2, E3, E4, E6, E7, E8, least, operator_at, deeper, prefix_at, comparison_of, Tail, Call, Index, Attribute, tail_of, Bracket, Round, Square, Brace, bracket_of, first_comparison, first_name, first_if, then_assign, first_keyword, on_none, some_names, targets, Argument, plain, named, arguments_of, all_named, named_last, pairs_of, links_of, tests_of}
-use Rattle.syntax_reading.specs.Reading.{nothing_left, with_field, alone, argument, key_item, clause, round, square, brace, bracketed, parts, with_parts, atom, slice_end, indexed, called, tailed, tails, postfix, powers, prefixes, turns, operations, is_tail, chained, compared, whole, level_8, level_7, level_6, level_5, level_4, level_3, level_2, level_1, at_level, read}
-use Rattle.syntax_reading.proofs.Shaped.{PiecesShaped, IsFree, AreFree, AreFreeTargets, Shaped, AllShaped, LinksShaped, ArgumentsShaped, PairsShaped, BoundShaped}
-use Rattle.syntax_reading.proofs.Spelling.{closes, closed, spell_more, spell_all, spell_name, spell_names, operator_word, prefix_word, comparison_then, is_then, spell, spell_list, spell_later, spell_links, spell_arguments, spell_pairs, spell_tests, spell_bound}
-use Rattle.syntax_reading.proofs.WordLaws.{before, before_nil, words_same}
-use Rattle.syntax_reading.proofs.Choices.{bind_ok, guarded_ok, lt_of, choose_ok, Hit, on_table_ok, Took, on_ok, on_only_ok, on_closing_ok, Ends}
-use Rattle.syntax_reading.proofs.ItemsFound.{AllGood, IsItem, All, items_all, items_on_all, items_later_all, is_many, ClosesApart, items_many}
-use Rattle.syntax_reading.proofs.SpellingLaws.{spell_is}
+use Rattle.syntax_reading.specs.Readers.{Reader, ◌>>=◌, on, guarded, by}
+use Rattle.syntax_reading.specs.Items.{items, each}
+use Rattle.syntax_reading.specs.Tables.{Level, E1, E2, E3, E4, E6, E7, E8, least, operator_at, deeper, prefix_at, Tail, Call, Index, Attribute, tail_of, first_comparison, first_name, on_none, Argument, arguments_of, named_last, links_of}
+use Rattle.syntax_reading.specs.Reading.{argument, atom, slice_end, indexed, called, tailed, tails, postfix, powers, prefixes, turns, operations, is_tail, chained, compared, whole, level_8, level_7, level_6, level_5, level_4, level_3, level_2, at_level, read}
+use Rattle.syntax_reading.proofs.Shaped.{BoundShaped}
+use Rattle.syntax_reading.proofs.Spelling.{operator_word, prefix_word, comparison_then, spell, spell_bound}
+use Rattle.syntax_reading.proofs.WordLaws.{before}
+use Rattle.syntax_reading.proofs.Choices.{bind_ok, guarded_ok, lt_of, on_table_ok, Took, on_ok, on_only_ok}
+use Rattle.syntax_reading.proofs.ItemsFound.{AllGood, items_all}
 use Rattle.syntax_reading.proofs.EachFound.{spell_each, each_all}
-use Rattle.syntax_reading.proofs.Lists.{Fits, list_of_items, all_shaped, comma_behind, spell_pair, PairFits, pairs_of_items, pairs_shaped, pair_comma, spell_argument, ArgumentFits, arguments_of_items, arguments_shaped, argument_comma, named_are_last, are_names, are_targets, links_of_each, links_shaped, if_then, tests_of_each, tests_shaped}
-use Rattle.syntax_reading.proofs.FoundParts.{Found, IsSound, Sound, operator_listed, prefix_listed, comparison_began, name_found, targets_found, ends, from, lower, tree_item, argument_item, pair_item, Clause, clause_found}
+use Rattle.syntax_reading.proofs.Lists.{Fits, spell_argument, ArgumentFits, arguments_of_items, arguments_shaped, argument_comma, named_are_last, links_of_each, links_shaped}
+use Rattle.syntax_reading.proofs.FoundParts.{Found, IsSound, Sound, operator_listed, prefix_listed, comparison_began, name_found, ends, from, lower, argument_item}
 use Rattle.syntax_reading.proofs.FoundAtoms.{atom_found}
 
 none_is : (k : TokenKind) (s : List ℕ) → is_none_spelled k s ≡ true → literal_of k s ≡ none_literal
@@ -209,7 +201,7 @@ module _ (inner : Level → Reader Tree) (below : ℕ) (ih : IsSound inner below
             from inner below ih (least l) (spell t ts) (spell t (fixed (operator_word op) ∷ spell r.0.0 r.0.1)) y
             (ap (spell t) (h.stood ∙ (ap (λ x. fixed x ∷ h.after) p.0 ∙ ap (λ us. fixed (operator_word op) ∷ us) fu.spelled)))
             (turns_found l n (binary op t r.0.0) r.0.1 y
-              (record { shaped = (left_high, f.shaped, right_high, fu.fits.shaped); high = own; shallow = omega arith }) r.2))
+            (record { shaped = (left_high, f.shaped, right_high, fu.fits.shaped); high = own; shallow = omega arith }) r.2))
         | inr o ↦ ends inner below ih (least l) t (spell t ts) ts y refl f o
       ]
 

@@ -1,34 +1,22 @@
 -- What reading gives is spelled so, and the grammar has it.
-use Rattle.std.proofs.Common.{◌≡◌, ℕ, zero, suc, ◌+◌, ◌<◌, ◌≤◌, max, ◌⊎◌, inl, inr, Bool, true, false, not, ◌&&◌, cond, IsTrue, List, [], ◌∷◌, ◌++◌, length, Option, Some, None, refl, sym, ap, ◌∙◌, subst, nat_lt, append_assoc, append-nil, arith}
-use Rattle.std.specs.Prelude.{if◌then◌else◌, option_map}
-use Rattle.std.proofs.lemmas.Bool.Decides.{nat_tests}
-use Rattle.lexical_form.specs.Tokens as kind
-use Rattle.py_tree.specs.declared.token.Token as literals
-use Rattle.py_tree.specs.declared.token.TokenKind.{TokenKind}
-use Rattle.py_tree.specs.declared.token.TokenKind.TheVariants as literal_kind
-use Rattle.py_tree.specs.FieldFormats.{Convert, Spec}
+use Rattle.std.proofs.Common.{◌≡◌, ℕ, suc, ◌+◌, ◌≤◌, inl, inr, Bool, true, false, not, ◌&&◌, List, [], ◌∷◌, length, Some, None, refl, sym, ap, ◌∙◌, subst, arith}
 use Rattle.py_tree.specs.Expressions as form
 use Rattle.syntax_reading.specs.Words as is
 use Rattle.py_tree.specs.Names.{Name}
 use Rattle.py_tree.specs.Expressions.{Pieces, no_piece, characters, field, Operator, Prefix, Comparison, Tree, conditional, binary, prefixed, chain, is_none, power, call, index, slice, attribute, paren, tuple, list, dict, list_of, dict_of, bare, Trees, none, more, Links, done, link, Arguments, no_argument, positional, keyword, Pairs, no_pair, pair, Bound, left_out, at, trees_of}
-use Rattle.lexical_form.specs.Tokens.{Token, token, tokens_of}
-use Rattle.syntax_form.specs.Printing.{tokens, token_pieces}
-use Rattle.syntax_form.specs.Depth.{piece_depth, depth, list_depth, link_depth, argument_depth, pair_depth, bound_depth}
-use Rattle.syntax_form.specs.Levels.{operator_level, prefix_level, level}
-use Rattle.syntax_form.specs.Shapes.{CommaBehind, IsTuple, CommaBehindPairs, CommaBehindArguments, NamedLast}
+use Rattle.syntax_form.specs.Depth.{list_depth}
+use Rattle.syntax_form.specs.Levels.{operator_level, prefix_level}
 use Rattle.syntax_reading.specs.Words.{literal_of, is_none_spelled, is_free, may_be_literal, Fixed, Word, name, literal, f_text, fixed, other, word_of, words, none_literal, is_none_literal}
-use Rattle.syntax_reading.specs.Readers.{Read, Reader, ◌>>=◌, choose, on_table, on, guarded, Closing, by, at_end, on_closing, is_some}
-use Rattle.syntax_reading.specs.Items.{after_item, items, items_on, each}
-use Rattle.syntax_reading.specs.Tables.{Level, E1, E2, E3, E4, E6, E7, E8, least, operator_at, deeper, prefix_at, comparison_of, Tail, Call, Index, Attribute, tail_of, Bracket, Round, Square, Brace, bracket_of, first_comparison, first_name, first_if, then_assign, first_keyword, on_none, some_names, targets, Argument, plain, named, arguments_of, all_named, named_last, pairs_of, links_of, tests_of}
-use Rattle.syntax_reading.specs.Reading.{nothing_left, with_field, alone, argument, key_item, clause, round, square, brace, bracketed, parts, with_parts, atom, slice_end, indexed, called, tailed, tails, postfix, powers, prefixes, turns, operations, is_tail, chained, compared, whole, level_8, level_7, level_6, level_5, level_4, level_3, level_2, level_1, at_level, read}
-use Rattle.syntax_reading.proofs.Shaped.{PiecesShaped, IsFree, AreFree, AreFreeTargets, Shaped, AllShaped, LinksShaped, ArgumentsShaped, PairsShaped, BoundShaped}
-use Rattle.syntax_reading.proofs.Spelling.{closes, closed, spell_more, spell_all, spell_name, spell_names, operator_word, prefix_word, comparison_then, is_then, spell, spell_list, spell_later, spell_links, spell_arguments, spell_pairs, spell_tests, spell_bound}
-use Rattle.syntax_reading.proofs.WordLaws.{before, before_nil, words_same}
-use Rattle.syntax_reading.proofs.Choices.{bind_ok, guarded_ok, lt_of, choose_ok, Hit, on_table_ok, Took, on_ok, on_only_ok, on_closing_ok, Ends}
-use Rattle.syntax_reading.proofs.ItemsFound.{AllGood, IsItem, All, items_all, items_on_all, items_later_all}
-use Rattle.syntax_reading.proofs.SpellingLaws.{spell_is}
-use Rattle.syntax_reading.proofs.EachFound.{spell_each, each_all}
-use Rattle.syntax_reading.proofs.Lists.{Fits, list_of_items, all_shaped, comma_behind, spell_pair, PairFits, pairs_of_items, pairs_shaped, pair_comma, spell_argument, ArgumentFits, arguments_of_items, arguments_shaped, argument_comma, named_are_last, are_names, are_targets, links_of_each, links_shaped, if_then, tests_of_each, tests_shaped}
+use Rattle.syntax_reading.specs.Readers.{Reader, ◌>>=◌, on, guarded, by, is_some}
+use Rattle.syntax_reading.specs.Items.{items, each}
+use Rattle.syntax_reading.specs.Tables.{Level, E1, E2, E3, E4, E6, E7, E8, least, operator_at, deeper, prefix_at, comparison_of, first_comparison, first_name, first_if, then_assign, first_keyword, some_names, targets, Argument, plain, named, tests_of}
+use Rattle.syntax_reading.specs.Reading.{argument, key_item, clause}
+use Rattle.syntax_reading.proofs.Shaped.{IsFree, AreFreeTargets, AllShaped}
+use Rattle.syntax_reading.proofs.Spelling.{spell_all, spell_name, spell_names, operator_word, prefix_word, comparison_then, spell, spell_tests}
+use Rattle.syntax_reading.proofs.Choices.{bind_ok, guarded_ok, choose_ok, on_table_ok, on_only_ok}
+use Rattle.syntax_reading.proofs.ItemsFound.{IsItem, items_all}
+use Rattle.syntax_reading.proofs.EachFound.{each_all}
+use Rattle.syntax_reading.proofs.Lists.{Fits, spell_pair, PairFits, spell_argument, ArgumentFits, are_targets, if_then, tests_of_each, tests_shaped}
 
 pub record Found (k room : ℕ) (ts : List Word) (t : Tree) (rest : List Word) : Type 0 where
   pub spelled : ts ≡ spell t rest
@@ -159,9 +147,10 @@ module _ (inner : Level → Reader Tree) (below : ℕ) (ih : IsSound inner below
             let k = keyword_found ts c.0 c.1 in
             let b = bind_ok (inner E1 c.0.1) (last c.0.0) y c.2 in
             let f = ih E1 c.0.1 b.0 b.1 in
-            let pair_is : ◌≡◌ {A = Argument × List Word} (named c.0.0 b.0.0, b.0.1) y = cc (b.2) in
-            (k.0 ∙ (ap (λ us. name c.0.0 ∷ fixed is.assign ∷ us) f.spelled ∙ ap (λ q. spell_argument q.0 q.1) pair_is),
-             subst (λ q. ArgumentFits below q.0) pair_is (k.1, f.fits)))
+            let pair_is : ◌≡◌ {A = Argument × List Word} (named c.0.0 b.0.0, b.0.1) y = cc (b.2) in (
+              k.0 ∙ (ap (λ us. name c.0.0 ∷ fixed is.assign ∷ us) f.spelled ∙ ap (λ q. spell_argument q.0 q.1) pair_is),
+              subst (λ q. ArgumentFits below q.0) pair_is (k.1, f.fits),
+            ))
         | inr o ↦ (
             let b = bind_ok (inner E1 ts) simple y o.1 in
             let f = ih E1 ts b.0 b.1 in
@@ -179,9 +168,10 @@ module _ (inner : Level → Reader Tree) (below : ℕ) (ih : IsSound inner below
       let t = on_only_ok is.colon (after k) b.0.1 y b.2 in
       let q = bind_ok (inner E1 t.0) (last k) y t.2 in
       let g = ih E1 t.0 q.0 q.1 in
-      let pair_is : ◌≡◌ {A = (Tree × Tree) × List Word} ((k, q.0.0), q.0.1) y = cc (q.2) in
-      (f.spelled ∙ (ap (spell k) (t.1 ∙ ap (λ us. fixed is.colon ∷ us) g.spelled) ∙ ap (λ p. spell_pair p.0 p.1) pair_is),
-       subst (λ p. PairFits below p.0) pair_is (f.fits, g.fits))
+      let pair_is : ◌≡◌ {A = (Tree × Tree) × List Word} ((k, q.0.0), q.0.1) y = cc (q.2) in (
+        f.spelled ∙ (ap (spell k) (t.1 ∙ ap (λ us. fixed is.colon ∷ us) g.spelled) ∙ ap (λ p. spell_pair p.0 p.1) pair_is),
+        subst (λ p. PairFits below p.0) pair_is (f.fits, g.fits),
+      )
 
   -- ---- what stands after `for`
 
@@ -212,4 +202,5 @@ module _ (inner : Level → Reader Tree) (below : ℕ) (ih : IsSound inner below
         names = n.1;
         from_fits = f.fits;
         tests = l.0;
-        shallow = l.1 })
+        shallow = l.1;
+      })

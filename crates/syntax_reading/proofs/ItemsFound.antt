@@ -1,11 +1,11 @@
 -- Lists with commas: what reading gives is spelled so.
-use Rattle.std.proofs.Common.{◌≡◌, ℕ, zero, suc, ◌+◌, ◌<◌, ◌⊎◌, inl, inr, Bool, true, false, List, [], ◌∷◌, ◌++◌, length, Option, Some, None, refl, sym, ap, ◌∙◌, subst, append_assoc, append-nil, arith}
+use Rattle.std.proofs.Common.{◌≡◌, ℕ, zero, suc, ◌+◌, inl, inr, Bool, true, false, List, [], ◌∷◌, ◌++◌, length, Option, Some, None, refl, sym, ap, ◌∙◌, subst, append_assoc, append-nil}
 use Rattle.syntax_reading.specs.Words as is
 use Rattle.syntax_reading.specs.Words.{Fixed, Word, fixed}
-use Rattle.syntax_reading.specs.Readers.{Read, Reader, ◌>>=◌, on, Closing, on_closing, is_some}
+use Rattle.syntax_reading.specs.Readers.{Reader, ◌>>=◌, Closing, on_closing, is_some}
 use Rattle.syntax_reading.specs.Items.{after_item, items, items_on}
 use Rattle.syntax_reading.proofs.Spelling.{closes, closed, spell_more, spell_all}
-use Rattle.syntax_reading.proofs.Choices.{bind_ok, Took, on_ok, on_closing_ok, Ends}
+use Rattle.syntax_reading.proofs.Choices.{bind_ok, on_ok, on_closing_ok, Ends}
 
 pub some_after : {I : Type 0} (found : List I) (i : I) → is_some (found ++ i ∷ []) ≡ true
 some_after [] i = refl
@@ -57,7 +57,8 @@ module _ {I : Type 0} (item : Reader I) (c : Closing) (spell_item : I → List W
         all = sym (ap (λ p. p.0) a) ∙ sym (append-nil found);
         good = tt;
         spelled = e ∙ (ap (λ k. closed k c us) (ap (λ p. p.1) a) ∙ ap (closed y.0.1 c) after);
-        ends = subst (Ends c) after n }
+        ends = subst (Ends c) after n;
+      }
 
   pub after_more : (further : Reader (List I × Bool)) (found : List I) (ts : List Word) (y : (List I × Bool) × List Word) →
       ((us : List Word) → further us ≡ Some y → MoreHere found (fixed is.comma ∷ us) y.0 y.1) →
@@ -65,9 +66,9 @@ module _ {I : Type 0} (item : Reader I) (c : Closing) (spell_item : I → List W
   after_more further found ts y h e = elim (on_ok is.comma (on_closing c None (λ us. Some ((found, false), us)) ts) further ts y e) [
     | inl t ↦ (let m = h t.0 t.2 in record { new = m.new; all = m.all; good = m.good; spelled = t.1 ∙ m.spelled; ends = m.ends })
     | inr o ↦ elim (on_closing_ok c None (λ us. Some ((found, false), us)) ts y o) [
-        | inl t ↦ stops found false ts t.0 y t.1 t.3 t.2
-        | inr n ↦ absurd (cc)
-      ]
+      | inl t ↦ stops found false ts t.0 y t.1 t.3 t.2
+      | inr n ↦ absurd (cc)
+    ]
   ]
 
   one_more : (found : List I) (i : I) (ts us : List Word) (a : List I × Bool) (rest : List Word) → ts ≡ spell_item i us → Good i → MoreHere (found ++ i ∷ []) us a rest →
@@ -78,7 +79,8 @@ module _ {I : Type 0} (item : Reader I) (c : Closing) (spell_item : I → List W
         all = m.all ∙ append_assoc found (i ∷ []) m.new;
         good = (g, m.good);
         spelled = ap (λ vs. fixed is.comma ∷ vs) (e ∙ ap (spell_item i) m.spelled);
-        ends = m.ends }
+        ends = m.ends;
+      }
 
   pub items_more : (n : ℕ) (found : List I) (ts : List Word) (y : (List I × Bool) × List Word) → is_some found ≡ true → items item c n found ts ≡ Some y →
       MoreHere found (fixed is.comma ∷ ts) y.0 y.1
@@ -106,7 +108,8 @@ module _ {I : Type 0} (item : Reader I) (c : Closing) (spell_item : I → List W
         good = subst (AllGood Good) is (g, m.good);
         spelled = (e ∙ ap (spell_item i) m.spelled) ∙ ap (λ xs. spell_all spell_item xs a.1 c rest) is;
         has = λ h. ap is_some (sym is);
-        ends = m.ends }
+        ends = m.ends;
+      }
 
   pub items_all : (n : ℕ) (ts : List Word) (y : (List I × Bool) × List Word) → items item c n [] ts ≡ Some y → All spell_item Good c ts y.0 y.1
   unfolding items
@@ -121,7 +124,8 @@ module _ {I : Type 0} (item : Reader I) (c : Closing) (spell_item : I → List W
               good = subst (λ p. AllGood Good p.0) a tt;
               spelled = t.1 ∙ (ap (closes c) after ∙ ap (λ p. spell_all spell_item p.0 p.1 c y.1) a);
               has = subst (λ p. p.1 ≡ true → is_some p.0 ≡ true) a (λ h. absurd (cc));
-              ends = subst (Ends c) after t.3 })
+              ends = subst (Ends c) after t.3;
+            })
         | inr o ↦ (
             let b = bind_ok (item ts) step y o in
             let i = b.0.0 in

@@ -1,14 +1,14 @@
 -- Lists: what spells items is read as those items.
-use Rattle.std.proofs.Common.{◌≡◌, ℕ, zero, suc, ◌+◌, ◌<◌, ◌≤◌, Bool, true, false, List, [], ◌∷◌, ◌++◌, length, Option, Some, None, refl, sym, ap, ◌∙◌, subst, append_assoc, append-nil, arith}
+use Rattle.std.proofs.Common.{◌≡◌, ℕ, zero, suc, ◌+◌, ◌<◌, ◌≤◌, Bool, true, false, List, [], ◌∷◌, ◌++◌, length, Some, None, refl, sym, ap, ◌∙◌, append_assoc, append-nil, arith}
 use Rattle.syntax_reading.specs.Words as is
 use Rattle.py_tree.specs.Expressions.{Tree}
 use Rattle.syntax_reading.specs.Words.{literal_of, is_none_spelled, Fixed, Word, fixed}
-use Rattle.syntax_reading.specs.Readers.{Read, Reader, ◌>>=◌, choose, on, Closing, by, at_end, on_closing, is_some}
+use Rattle.syntax_reading.specs.Readers.{Reader, ◌>>=◌, choose, Closing, on_closing, is_some}
 use Rattle.syntax_reading.specs.Items.{after_item, items, items_on, each}
-use Rattle.syntax_reading.proofs.Binding.{opening, opens}
-use Rattle.syntax_reading.proofs.Spelling.{closes, closed, spell_more, spell_all, spell}
+use Rattle.syntax_reading.proofs.Binding.{opens}
+use Rattle.syntax_reading.proofs.Spelling.{closes, spell_more, spell_all, spell}
 use Rattle.syntax_reading.proofs.Choices.{Ends}
-use Rattle.syntax_reading.proofs.ItemsFound.{some_after, AllGood, is_many}
+use Rattle.syntax_reading.proofs.ItemsFound.{some_after, AllGood}
 use Rattle.syntax_reading.proofs.EachFound.{spell_each}
 use Rattle.syntax_reading.proofs.Following.{CloseFine, on_closing_at, on_closing_shut, no_comma, spell_longer}
 
@@ -103,4 +103,4 @@ module _ {B : Type 0} (start : Reader B) (inner : Reader Tree) (begin : B → Li
       let later = each_only ls rest n (found ++ l ∷ []) g.1 m s (omega arith) in
       ap (choose (Some (found, begin b (spell t after))) step) (laws.starts b (spell t after)) ∙
       (ap (λ r. r >>= λ t'. each start inner n (found ++ (b, t') ∷ [])) (laws.only t after g.0 (may_each ls rest m)) ∙
-        (later ∙ ap (λ ys. Some (ys, rest)) (append_assoc found (l ∷ []) ls)))
+      (later ∙ ap (λ ys. Some (ys, rest)) (append_assoc found (l ∷ []) ls)))

@@ -1,8 +1,7 @@
 -- A levelled expression is shaped; and one that is shaped, and whose tokens are spelled as tokens, is levelled.
-use Rattle.std.proofs.Common.{◌≡◌, ℕ, Bool, true, false, List, [], ◌∷◌, ◌++◌, IsTrue, refl, subst}
+use Rattle.std.proofs.Common.{ℕ, List, [], refl, subst}
 use Rattle.std.specs.Prelude.{not, ◌&&◌, ⊤}
 use Rattle.py_tree.specs.Names.{Name, is_among, is_spelled_name, keywords, unused_keywords, continues_name}
-use Rattle.py_tree.specs.declared.token.Token as literals
 use Rattle.py_tree.specs.declared.token.TokenKind.{TokenKind}
 use Rattle.py_tree.specs.declared.token.TokenKind.TheVariants as literal_kind
 use Rattle.py_tree.specs.Expressions.{Tree, Pieces, no_piece, characters, field}
@@ -18,7 +17,6 @@ use Rattle.syntax_form.specs.Levelled.{Levelled}
 use Rattle.syntax_form.specs.Printing.{name_token, kind_of, tokens, token_pieces}
 use Rattle.syntax_form.specs.SpelledTokens.{AreTokens}
 use Rattle.syntax_form.proofs.TokenLaws.{tokens_before, tokens_behind, list_of_tokens, FieldsAreTokens, fields_are_tokens}
-use Rattle.syntax_reading.specs.Words.{is_free}
 use Rattle.syntax_reading.proofs.Shaped.{IsFree, MayBeLiteral, AnyFText, Shaped}
 use Rattle.syntax_reading.proofs.Regrouping.{Fields, Change, regrouped}
 
@@ -52,7 +50,8 @@ shaping = record {
   named = λ x ts h n. name_is_free x n;
   literally = λ t h l. literal_may_be t.kind t.spelling l;
   texts = λ cs ps h f. tt;
-  fields = λ cs ps h. any_fields ps }
+  fields = λ cs ps h. any_fields ps;
+}
 
 pub levelled_is_shaped : (t : Tree) → Levelled t → Shaped t
 levelled_is_shaped t l = regrouped shaping t tt l
@@ -86,7 +85,8 @@ levelling = record {
   named = λ x ts h f. spelled_name x h.0 f;
   literally = λ t h m. spelled_literal t.kind t.spelling h.0 m;
   texts = λ cs ps h f. let s = h.0 in (s.0, s.1, s.2, s.3);
-  fields = λ cs ps h. spelled_fields ps (fields_are_tokens cs [] (token_pieces ps) h.0) }
+  fields = λ cs ps h. spelled_fields ps (fields_are_tokens cs [] (token_pieces ps) h.0);
+}
 
 pub shaped_is_levelled : (t : Tree) → Shaped t → AreTokens (tokens t) → Levelled t
 shaped_is_levelled t s h = regrouped levelling t h s

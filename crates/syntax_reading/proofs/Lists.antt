@@ -1,5 +1,5 @@
 -- Items xs the lists of a tree.
-use Rattle.std.proofs.Common.{◌≡◌, ℕ, suc, ◌+◌, ◌≤◌, max, Bool, true, false, not, ◌&&◌, cond, IsTrue, List, [], ◌∷◌, ◌++◌, length, Option, Some, None, refl, sym, ap, ◌∙◌, subst, arith}
+use Rattle.std.proofs.Common.{◌≡◌, ℕ, ◌≤◌, Bool, true, false, List, [], ◌∷◌, refl, ap, arith}
 use Rattle.syntax_reading.specs.Words as is
 use Rattle.py_tree.specs.Names.{Name}
 use Rattle.py_tree.specs.Expressions.{Tree, Comparison, Trees, none, more, Links, done, link, Arguments, no_argument, positional, keyword, Pairs, no_pair, pair, trees_of}
@@ -10,7 +10,7 @@ use Rattle.syntax_reading.specs.Words.{is_free, Fixed, Word, name, fixed}
 use Rattle.syntax_reading.specs.Readers.{Closing, by, is_some}
 use Rattle.syntax_reading.specs.Tables.{Argument, plain, named, arguments_of, all_named, named_last, pairs_of, links_of, tests_of}
 use Rattle.syntax_reading.proofs.Shaped.{IsFree, AreFree, AreFreeTargets, Shaped, AllShaped, LinksShaped, ArgumentsShaped, PairsShaped}
-use Rattle.syntax_reading.proofs.Spelling.{closed, spell_more, spell_all, spell_name, comparison_then, spell, spell_list, spell_later, spell_links, spell_arguments, spell_later_arguments, spell_pairs, spell_later_pairs, spell_tests}
+use Rattle.syntax_reading.proofs.Spelling.{spell_more, spell_all, comparison_then, spell, spell_list, spell_later, spell_links, spell_arguments, spell_later_arguments, spell_pairs, spell_later_pairs, spell_tests}
 use Rattle.syntax_reading.proofs.ItemsFound.{AllGood}
 use Rattle.syntax_reading.proofs.EachFound.{spell_each}
 

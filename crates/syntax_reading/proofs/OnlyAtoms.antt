@@ -1,41 +1,31 @@
 -- What spells a tree of the grammar is read as that tree, where no word that follows binds to it.
-use Rattle.std.proofs.Common.{◌≡◌, ℕ, zero, suc, ◌+◌, ◌<◌, ◌≤◌, max, ◌⊎◌, inl, inr, Bool, true, false, not, ◌&&◌, cond, codes, IsTrue, List, [], ◌∷◌, ◌++◌, length, Option, Some, None, refl, sym, ap, ◌∙◌, subst, nat_lt, append_assoc, append-nil, arith}
-use Rattle.std.specs.Prelude.{if◌then◌else◌, option_map}
-use Rattle.std.proofs.lemmas.Bool.Decides.{nat_tests}
-use Rattle.std.proofs.lemmas.Slice.Eq.{bytes_eq-Decides}
-use Rattle.lexical_form.specs.Tokens as kind
-use Rattle.py_tree.specs.declared.token.Token as literals
-use Rattle.py_tree.specs.declared.token.TokenKind.{TokenKind}
-use Rattle.py_tree.specs.declared.token.TokenKind.TheVariants as literal_kind
-use Rattle.py_tree.specs.FieldFormats.{Convert, Spec}
+use Rattle.std.proofs.Common.{◌≡◌, ℕ, suc, ◌+◌, ◌<◌, ◌≤◌, Bool, true, false, ◌&&◌, List, [], ◌∷◌, length, Some, None, refl, sym, ap, ◌∙◌, arith}
+use Rattle.std.specs.Prelude.{option_map}
 use Rattle.py_tree.specs.Expressions as form
 use Rattle.syntax_reading.specs.Words as is
 use Rattle.py_tree.specs.Names.{Name}
 use Rattle.py_tree.specs.Expressions.{Pieces, no_piece, characters, field, Operator, Prefix, Comparison, Tree, conditional, binary, prefixed, chain, is_none, power, call, index, slice, attribute, paren, tuple, list, dict, list_of, dict_of, bare, Trees, none, more, Links, done, link, Arguments, no_argument, positional, keyword, Pairs, no_pair, pair, Bound, left_out, at, trees_of}
-use Rattle.lexical_form.specs.Tokens.{Token, token, tokens_of}
 use Rattle.syntax_form.specs.Printing.{tokens, token_pieces}
-use Rattle.syntax_form.specs.Depth.{piece_depth, depth, list_depth, link_depth, argument_depth, pair_depth, bound_depth}
-use Rattle.syntax_form.specs.Levels.{operator_level, prefix_level, level}
-use Rattle.syntax_form.specs.Shapes.{AreNamed, CommaBehind, IsTuple, CommaBehindPairs, CommaBehindArguments, NamedLast}
-use Rattle.syntax_form.specs.SpelledTokens.{token_list}
+use Rattle.syntax_form.specs.Depth.{piece_depth, list_depth}
+use Rattle.syntax_form.specs.Levels.{operator_level, prefix_level}
+use Rattle.syntax_form.specs.Shapes.{CommaBehind, IsTuple, CommaBehindPairs}
 use Rattle.syntax_form.proofs.TokenLaws.{list_of_tokens}
 use Rattle.syntax_reading.specs.Words.{literal_of, is_none_spelled, is_free, may_be_literal, same, Fixed, Word, name, literal, f_text, fixed, other, word_of, words, none_literal, is_none_literal}
-use Rattle.syntax_reading.specs.Readers.{Read, Reader, ◌>>=◌, choose, on_table, on, guarded, Closing, by, at_end, on_closing, is_some}
-use Rattle.syntax_reading.specs.Items.{after_item, items, items_on, each}
-use Rattle.syntax_reading.specs.Tables.{Level, E1, E2, E3, E4, E6, E7, E8, least, operator_at, deeper, prefix_at, comparison_of, Tail, Call, Index, Attribute, tail_of, Bracket, Round, Square, Brace, bracket_of, first_comparison, first_name, first_if, then_assign, first_keyword, on_none, some_names, targets, Argument, plain, named, arguments_of, all_named, named_last, pairs_of, links_of, tests_of}
-use Rattle.syntax_reading.specs.Reading.{nothing_left, with_field, alone, argument, key_item, clause, round, square, brace, bracketed, parts, with_parts, atom, slice_end, indexed, called, tailed, tails, postfix, powers, prefixes, turns, operations, is_tail, chained, compared, whole, level_8, level_7, level_6, level_5, level_4, level_3, level_2, level_1, at_level, read}
-use Rattle.syntax_reading.proofs.Binding.{binding, binds, opening, opens}
-use Rattle.syntax_reading.proofs.Shaped.{PiecesShaped, IsFree, AreFree, AreFreeTargets, Shaped, AllShaped, LinksShaped, ArgumentsShaped, PairsShaped, BoundShaped}
-use Rattle.syntax_reading.proofs.Spelling.{closes, closed, spell_more, spell_all, spell_name, spell_names, operator_word, prefix_word, comparison_then, is_then, spell, spell_list, spell_later, spell_links, spell_arguments, spell_pairs, spell_tests, spell_bound}
-use Rattle.syntax_reading.proofs.WordLaws.{before, before_nil, words_same}
-use Rattle.syntax_reading.proofs.Choices.{bind_ok, guarded_ok, lt_of, choose_ok, Hit, on_table_ok, Took, on_ok, on_only_ok, on_closing_ok, Ends}
-use Rattle.syntax_reading.proofs.ItemsFound.{AllGood, IsItem, All, items_all, items_on_all, items_later_all, is_many, ClosesApart, items_many}
+use Rattle.syntax_reading.specs.Readers.{Read, Reader, ◌>>=◌, choose, on, guarded, Closing, by, is_some}
+use Rattle.syntax_reading.specs.Items.{items, items_on, each}
+use Rattle.syntax_reading.specs.Tables.{Level, E1, E2, least, first_name, first_if, first_keyword, some_names, targets, Argument, plain, named, pairs_of, tests_of}
+use Rattle.syntax_reading.specs.Reading.{with_field, alone, argument, key_item, clause, round, square, brace, parts, with_parts, atom}
+use Rattle.syntax_reading.proofs.Binding.{binding, binds, opens}
+use Rattle.syntax_reading.proofs.Shaped.{PiecesShaped, IsFree, AreFreeTargets, AllShaped}
+use Rattle.syntax_reading.proofs.Spelling.{closes, spell_more, spell_all, spell_name, spell_names, spell, spell_list, spell_pairs, spell_tests}
+use Rattle.syntax_reading.proofs.WordLaws.{before_nil}
+use Rattle.syntax_reading.proofs.Choices.{Ends}
+use Rattle.syntax_reading.proofs.ItemsFound.{AllGood, is_many}
 use Rattle.syntax_reading.proofs.SpellingLaws.{spell_is}
-use Rattle.syntax_reading.proofs.EachFound.{spell_each, each_all}
-use Rattle.syntax_reading.proofs.Lists.{list_trees, trees_of_list, all_fit, list_links, links_of_list, links_fit, list_tests, tests_of_list, tests_fit, list_arguments, arguments_of_list, arguments_fit, last_named, some_argument, list_pairs, pairs_of_list, pairs_fit, names_good, targets_good, Fits, list_of_items, all_shaped, comma_behind, spell_pair, PairFits, pairs_of_items, pairs_shaped, pair_comma, spell_argument, ArgumentFits, arguments_of_items, arguments_shaped, argument_comma, named_are_last, are_names, are_targets, links_of_each, links_shaped, if_then, tests_of_each, tests_shaped}
-use Rattle.syntax_reading.proofs.FoundParts.{name_found}
-use Rattle.syntax_reading.proofs.Following.{guarded_by, on_table_skip, on_table_shut, on_skip, on_shut, operator_binds, operator_tight, prefix_opens, prefix_loose, tail_tight, no_comparison, comparison_at, comparison_binds, comparison_longer, on_is_comparison, no_if, is_binds, operator_there, CloseFine, on_closing_at, opens_spell, spell_longer, operator_word_loose, no_keyword}
-use Rattle.syntax_reading.proofs.ItemsOnly.{ItemLaws, items_closed, after_only, items_next, all_only, on_only, EachLaws, each_only}
+use Rattle.syntax_reading.proofs.EachFound.{spell_each}
+use Rattle.syntax_reading.proofs.Lists.{list_trees, trees_of_list, all_fit, list_tests, tests_of_list, tests_fit, list_pairs, pairs_of_list, pairs_fit, targets_good, Fits, list_of_items, spell_pair, PairFits, pairs_of_items, spell_argument, ArgumentFits, if_then, tests_of_each}
+use Rattle.syntax_reading.proofs.Following.{on_shut, no_if, CloseFine, opens_spell, spell_longer, no_keyword}
+use Rattle.syntax_reading.proofs.ItemsOnly.{ItemLaws, items_closed, items_next, all_only, on_only, EachLaws, each_only}
 
 abbrev pub IsComplete : (Level → Reader Tree) → ℕ → Type 0
 IsComplete inner room = (l : Level) (t : Tree) (rest : List Word) → Fits (least l) room t → binds rest < least l → inner l (spell t rest) ≡ Some (t, rest)
@@ -62,7 +52,8 @@ name_laws c fine = record {
   may_close = λ rest e. tt;
   begins = λ x rest g. omega arith;
   longer = λ x rest. omega arith;
-  fine = fine }
+  fine = fine;
+}
 
 some_targets : (xs : List Name) → AreFreeTargets xs → is_some xs ≡ true
 some_targets [] h = absurd h
@@ -87,7 +78,8 @@ module _ (inner : Level → Reader Tree) (below : ℕ) (ih : IsComplete inner be
     may_close = loose;
     begins = λ t rest g. let h = opens_spell t rest g.shaped in let k = g.high in omega arith;
     longer = spell_longer;
-    fine = fine }
+    fine = fine;
+  }
 
   pub opens_one : (k : ℕ) (t : Tree) (rest : List Word) → Fits (suc k) below t → 1 ≤ opens (spell t rest)
   opens_one k t rest f = let h = opens_spell t rest f.shaped in let g = f.high in omega arith
@@ -117,7 +109,8 @@ module _ (inner : Level → Reader Tree) (below : ℕ) (ih : IsComplete inner be
     may_close = λ rest e. omega arith;
     begins = argument_begins;
     longer = argument_longer;
-    fine = (refl, refl) }
+    fine = (refl, refl);
+  }
 
   pair_only : (p : Tree × Tree) (rest : List Word) → PairFits below p → Loose rest → key_item inner room (spell_pair p rest) ≡ Some (p, rest)
   pair_only p rest g m =
@@ -136,7 +129,8 @@ module _ (inner : Level → Reader Tree) (below : ℕ) (ih : IsComplete inner be
     may_close = λ rest e. omega arith;
     begins = λ p rest g. opens_one 0 p.0 (fixed is.colon ∷ spell p.1 rest) g.0;
     longer = λ p rest. let h = spell_longer p.0 (fixed is.colon ∷ spell p.1 rest) in let k = spell_longer p.1 rest in omega arith;
-    fine = (refl, refl) }
+    fine = (refl, refl);
+  }
 
   -- ---- what stands after `for`
 
@@ -145,7 +139,8 @@ module _ (inner : Level → Reader Tree) (below : ℕ) (ih : IsComplete inner be
     only = λ t rest g m. ih E2 t rest g m;
     starts = λ u rest. refl;
     may_start = λ u rest. omega arith;
-    longer = λ u rest. omega arith }
+    longer = λ u rest. omega arith;
+  }
 
   tests_spelled : (tests : Trees) (rest : List Word) → spell_tests tests rest ≡ spell_each if_then (list_tests tests) rest
   tests_spelled tests rest = ap (λ ts. spell_tests ts rest) (sym (tests_of_list tests)) ∙ tests_of_each (list_tests tests) rest
@@ -171,7 +166,7 @@ module _ (inner : Level → Reader Tree) (below : ℕ) (ih : IsComplete inner be
       let vs = spell_tests tests rest in
       ap (λ r. r >>= begin) (targets_only is.in_ xs (spell from vs) (refl, refl) h) ∙
       (ap (λ r. r >>= middle xs) (ih E2 from vs f (tests_bind tests rest b)) ∙
-        (ap (λ r. r >>= end xs from) (tests_only tests rest l d b) ∙ ap (λ ts. Some ((xs, from, ts), rest)) (tests_of_list tests)))
+      (ap (λ r. r >>= end xs from) (tests_only tests rest l d b) ∙ ap (λ ts. Some ((xs, from, ts), rest)) (tests_of_list tests)))
 
   -- ---- round brackets
 
@@ -250,8 +245,8 @@ module _ (inner : Level → Reader Tree) (below : ℕ) (ih : IsComplete inner be
       let after = spell_more spell xs b c rest in
       on_shut is.square_close (inner E1 ts >>= square_step) (λ us. Some (list none false, us)) ts refl (opens_one 0 t after g.0) ∙
       (ap (λ r. r >>= square_step) (ih E1 t after g.0 (more_loose spell xs b is.square_close rest (omega arith))) ∙
-        (no_for spell (items_on (inner E1) c t after >>= list_made) (λ vs. clause inner room vs >>= list_closing t) xs b is.square_close rest refl ∙
-          ap (λ r. r >>= list_made) (on_only (inner E1) c spell (Fits 1 below) Loose (tree_laws c square_loose (refl, refl)) t xs b rest g.1 tt)))
+      (no_for spell (items_on (inner E1) c t after >>= list_made) (λ vs. clause inner room vs >>= list_closing t) xs b is.square_close rest refl ∙
+      ap (λ r. r >>= list_made) (on_only (inner E1) c spell (Fits 1 below) Loose (tree_laws c square_loose (refl, refl)) t xs b rest g.1 tt)))
 
   list_of_only : (t : Tree) (xs : List Name) (from : Tree) (tests : Trees) (rest : List Word) → Fits 1 below t → AreFreeTargets xs → Fits 2 below from → AllShaped 2 tests → list_depth tests ≤ below →
       square inner room (spell t (fixed is.for_ ∷ spell_names xs is.in_ (spell from (spell_tests tests (fixed is.square_close ∷ rest))))) ≡ Some (list_of t xs from tests, rest)
@@ -261,7 +256,7 @@ module _ (inner : Level → Reader Tree) (below : ℕ) (ih : IsComplete inner be
       let ts = spell t (fixed is.for_ ∷ inside) in
       on_shut is.square_close (inner E1 ts >>= square_step) (λ us. Some (list none false, us)) ts refl (opens_one 0 t (fixed is.for_ ∷ inside) f) ∙
       (ap (λ r. r >>= square_step) (ih E1 t (fixed is.for_ ∷ inside) f (omega arith)) ∙
-        ap (λ r. r >>= list_closing t) (clause_only xs from tests (fixed is.square_close ∷ rest) h g l d (omega arith)))
+      ap (λ r. r >>= list_closing t) (clause_only xs from tests (fixed is.square_close ∷ rest) h g l d (omega arith)))
 
   -- ---- braces
 
@@ -285,8 +280,8 @@ module _ (inner : Level → Reader Tree) (below : ℕ) (ih : IsComplete inner be
       let after = spell_more spell_pair ps b c rest in
       on_shut is.brace_close (key_item inner room ts >>= brace_step) (λ us. Some (dict no_pair false, us)) ts refl (opens_one 0 p.0 (fixed is.colon ∷ spell p.1 after) g.0.0) ∙
       (ap (λ r. r >>= brace_step) (pair_only p after g.0 (more_loose spell_pair ps b is.brace_close rest (omega arith))) ∙
-        (no_for spell_pair (items_on (key_item inner room) c p after >>= dict_made) (λ vs. clause inner room vs >>= dict_closing p) ps b is.brace_close rest refl ∙
-          ap (λ r. r >>= dict_made) (on_only (key_item inner room) c spell_pair (PairFits below) Loose pair_laws p ps b rest g.1 tt)))
+      (no_for spell_pair (items_on (key_item inner room) c p after >>= dict_made) (λ vs. clause inner room vs >>= dict_closing p) ps b is.brace_close rest refl ∙
+      ap (λ r. r >>= dict_made) (on_only (key_item inner room) c spell_pair (PairFits below) Loose pair_laws p ps b rest g.1 tt)))
 
   dict_of_only : (p : Tree × Tree) (xs : List Name) (from : Tree) (tests : Trees) (rest : List Word) → PairFits below p → AreFreeTargets xs → Fits 2 below from → AllShaped 2 tests → list_depth tests ≤ below →
       brace inner room (spell_pair p (fixed is.for_ ∷ spell_names xs is.in_ (spell from (spell_tests tests (fixed is.brace_close ∷ rest))))) ≡ Some (dict_of p.0 p.1 xs from tests, rest)
@@ -296,7 +291,7 @@ module _ (inner : Level → Reader Tree) (below : ℕ) (ih : IsComplete inner be
       let ts = spell_pair p (fixed is.for_ ∷ inside) in
       on_shut is.brace_close (key_item inner room ts >>= brace_step) (λ us. Some (dict no_pair false, us)) ts refl (opens_one 0 p.0 (fixed is.colon ∷ spell p.1 (fixed is.for_ ∷ inside)) f.0) ∙
       (ap (λ r. r >>= brace_step) (pair_only p (fixed is.for_ ∷ inside) f (omega arith)) ∙
-        ap (λ r. r >>= dict_closing p) (clause_only xs from tests (fixed is.brace_close ∷ rest) h g l d (omega arith)))
+      ap (λ r. r >>= dict_closing p) (clause_only xs from tests (fixed is.brace_close ∷ rest) h g l d (omega arith)))
 
   -- ---- f-texts
 
@@ -370,7 +365,7 @@ module _ (inner : Level → Reader Tree) (below : ℕ) (ih : IsComplete inner be
       let s = f.shallow in
       let l = f.shaped in
       dict_of_only (k, t) xs from tests rest (record { shaped = l.1; high = l.0; shallow = omega arith }, record { shaped = l.3; high = l.2; shallow = omega arith }) l.4
-        (record { shaped = l.6; high = l.5; shallow = omega arith }) l.7 (omega arith)
+      (record { shaped = l.6; high = l.5; shallow = omega arith }) l.7 (omega arith)
   atom_only (binary op a b) rest f = absurd (operator_low op f.high)
     where
       operator_low : (o : Operator) → 11 ≤ operator_level o → ⊥

@@ -1,40 +1,27 @@
 -- The levels: what spells a tree of the grammar is read as that tree, where no word that follows binds to it.
-use Rattle.std.proofs.Common.{◌≡◌, ℕ, zero, suc, ◌+◌, ◌<◌, ◌≤◌, max, ◌⊎◌, inl, inr, Bool, true, false, not, ◌&&◌, cond, codes, IsTrue, List, [], ◌∷◌, ◌++◌, length, Option, Some, None, refl, sym, ap, ◌∙◌, subst, nat_lt, append_assoc, append-nil, arith}
-use Rattle.std.specs.Prelude.{if◌then◌else◌, option_map}
+use Rattle.std.proofs.Common.{◌≡◌, ℕ, zero, suc, ◌+◌, ◌<◌, ◌≤◌, Bool, true, false, List, [], ◌∷◌, length, Some, None, refl, sym, ap, ◌∙◌, nat_lt, arith}
 use Rattle.std.proofs.lemmas.Bool.Decides.{nat_tests}
-use Rattle.std.proofs.lemmas.Slice.Eq.{bytes_eq-Decides}
-use Rattle.lexical_form.specs.Tokens as kind
-use Rattle.py_tree.specs.declared.token.Token as literals
-use Rattle.py_tree.specs.declared.token.TokenKind.{TokenKind}
-use Rattle.py_tree.specs.declared.token.TokenKind.TheVariants as literal_kind
-use Rattle.py_tree.specs.FieldFormats.{Convert, Spec}
 use Rattle.py_tree.specs.Expressions as form
 use Rattle.syntax_reading.specs.Words as is
-use Rattle.py_tree.specs.Names.{Name}
 use Rattle.py_tree.specs.Expressions.{Pieces, no_piece, characters, field, Operator, Prefix, Comparison, Tree, conditional, binary, prefixed, chain, is_none, power, call, index, slice, attribute, paren, tuple, list, dict, list_of, dict_of, bare, Trees, none, more, Links, done, link, Arguments, no_argument, positional, keyword, Pairs, no_pair, pair, Bound, left_out, at, trees_of}
-use Rattle.lexical_form.specs.Tokens.{Token, token, tokens_of}
-use Rattle.syntax_form.specs.Printing.{tokens, token_pieces}
-use Rattle.syntax_form.specs.Depth.{piece_depth, depth, list_depth, link_depth, argument_depth, pair_depth, bound_depth}
+use Rattle.syntax_form.specs.Depth.{depth, argument_depth, bound_depth}
 use Rattle.syntax_form.specs.Levels.{operator_level, prefix_level, level}
-use Rattle.syntax_form.specs.Shapes.{AreNamed, CommaBehind, IsTuple, CommaBehindPairs, CommaBehindArguments, NamedLast}
+use Rattle.syntax_form.specs.Shapes.{CommaBehindArguments, NamedLast}
 use Rattle.syntax_reading.specs.Words.{literal_of, is_none_spelled, is_free, may_be_literal, same, Fixed, Word, name, literal, f_text, fixed, other, word_of, words, none_literal, is_none_literal}
-use Rattle.syntax_reading.specs.Readers.{Read, Reader, ◌>>=◌, choose, on_table, on, guarded, Closing, by, at_end, on_closing, is_some}
-use Rattle.syntax_reading.specs.Items.{after_item, items, items_on, each}
-use Rattle.syntax_reading.specs.Tables.{Level, E1, E2, E3, E4, E6, E7, E8, least, operator_at, deeper, prefix_at, comparison_of, Tail, Call, Index, Attribute, tail_of, Bracket, Round, Square, Brace, bracket_of, first_comparison, first_name, first_if, then_assign, first_keyword, on_none, some_names, targets, Argument, plain, named, arguments_of, all_named, named_last, pairs_of, links_of, tests_of}
-use Rattle.syntax_reading.specs.Reading.{nothing_left, with_field, alone, argument, key_item, clause, round, square, brace, bracketed, parts, with_parts, atom, slice_end, indexed, called, tailed, tails, postfix, powers, prefixes, turns, operations, is_tail, chained, compared, whole, level_8, level_7, level_6, level_5, level_4, level_3, level_2, level_1, at_level, read}
-use Rattle.syntax_reading.proofs.Binding.{binding, binds, opening, opens}
-use Rattle.syntax_reading.proofs.Shaped.{PiecesShaped, IsFree, AreFree, AreFreeTargets, Shaped, AllShaped, LinksShaped, ArgumentsShaped, PairsShaped, BoundShaped}
-use Rattle.syntax_reading.proofs.Spelling.{closes, closed, spell_more, spell_all, spell_name, spell_names, operator_word, prefix_word, comparison_then, is_then, spell, spell_list, spell_later, spell_links, spell_arguments, spell_pairs, spell_tests, spell_bound}
-use Rattle.syntax_reading.proofs.WordLaws.{before, before_nil, words_same}
-use Rattle.syntax_reading.proofs.Choices.{bind_ok, guarded_ok, lt_of, choose_ok, Hit, on_table_ok, Took, on_ok, on_only_ok, on_closing_ok, Ends}
-use Rattle.syntax_reading.proofs.ItemsFound.{AllGood, IsItem, All, items_all, items_on_all, items_later_all, is_many, ClosesApart, items_many}
-use Rattle.syntax_reading.proofs.SpellingLaws.{spell_is}
-use Rattle.syntax_reading.proofs.EachFound.{spell_each, each_all}
-use Rattle.syntax_reading.proofs.Lists.{list_trees, trees_of_list, all_fit, list_links, links_of_list, links_fit, list_tests, tests_of_list, tests_fit, list_arguments, arguments_of_list, arguments_fit, last_named, some_argument, list_pairs, pairs_of_list, pairs_fit, names_good, targets_good, Fits, list_of_items, all_shaped, comma_behind, spell_pair, PairFits, pairs_of_items, pairs_shaped, pair_comma, spell_argument, ArgumentFits, arguments_of_items, arguments_shaped, argument_comma, named_are_last, are_names, are_targets, links_of_each, links_shaped, if_then, tests_of_each, tests_shaped}
-use Rattle.syntax_reading.proofs.FoundParts.{name_found}
-use Rattle.syntax_reading.proofs.Following.{guarded_by, on_table_skip, on_table_shut, on_skip, on_shut, operator_binds, operator_tight, prefix_opens, prefix_loose, tail_tight, no_comparison, comparison_at, comparison_binds, comparison_longer, on_is_comparison, no_if, is_binds, operator_there, CloseFine, on_closing_at, opens_spell, spell_longer, operator_word_loose, no_keyword}
-use Rattle.syntax_reading.proofs.ItemsOnly.{ItemLaws, items_closed, after_only, items_next, all_only, on_only, EachLaws, each_only}
-use Rattle.syntax_reading.proofs.OnlyAtoms.{IsComplete, Complete, AnyRest, Loose, name_laws, targets_only, tree_laws, opens_one, argument_laws, atom_only}
+use Rattle.syntax_reading.specs.Readers.{Read, Reader, ◌>>=◌, on, guarded, by}
+use Rattle.syntax_reading.specs.Items.{each}
+use Rattle.syntax_reading.specs.Tables.{Level, E1, E2, E3, E4, E6, E7, E8, least, operator_at, deeper, prefix_at, Tail, Call, Index, Attribute, tail_of, first_comparison, first_name, Argument, arguments_of, named_last, links_of}
+use Rattle.syntax_reading.specs.Reading.{argument, slice_end, indexed, called, tailed, tails, postfix, powers, prefixes, turns, operations, is_tail, chained, compared, whole, level_8, level_7, level_6, level_5, level_4, level_3, level_2, at_level, read}
+use Rattle.syntax_reading.proofs.Binding.{binding, binds}
+use Rattle.syntax_reading.proofs.Shaped.{ArgumentsShaped, BoundShaped}
+use Rattle.syntax_reading.proofs.Spelling.{spell_all, operator_word, prefix_word, comparison_then, is_then, spell, spell_links, spell_arguments, spell_bound}
+use Rattle.syntax_reading.proofs.Choices.{lt_of}
+use Rattle.syntax_reading.proofs.ItemsFound.{AllGood}
+use Rattle.syntax_reading.proofs.EachFound.{spell_each}
+use Rattle.syntax_reading.proofs.Lists.{list_links, links_of_list, links_fit, list_arguments, arguments_of_list, arguments_fit, last_named, some_argument, Fits, spell_argument, ArgumentFits, arguments_of_items, links_of_each}
+use Rattle.syntax_reading.proofs.Following.{guarded_by, on_table_skip, on_table_shut, on_skip, on_shut, operator_binds, operator_tight, prefix_loose, tail_tight, no_comparison, comparison_at, comparison_binds, comparison_longer, on_is_comparison, operator_there, opens_spell}
+use Rattle.syntax_reading.proofs.ItemsOnly.{all_only, EachLaws, each_only}
+use Rattle.syntax_reading.proofs.OnlyAtoms.{IsComplete, Complete, Loose, opens_one, argument_laws, atom_only}
 
 operator_low : (op : Operator) → operator_level op < 8
 operator_low form.Or = omega arith
@@ -117,7 +104,7 @@ module _ (inner : Level → Reader Tree) (below : ℕ) (ih : IsComplete inner be
       let made : List Argument × Bool → Reader Tree = λ a us. guarded (named_last a.0) (Some (call callee (arguments_of a.0) a.1, us)) in
       let spelled : spell_arguments args b rest ≡ spell_all spell_argument as_items b (by is.round_close) rest = ap (λ us. spell_arguments us b rest) (sym same_args) ∙ arguments_of_items as_items b rest in
       let all = all_only (argument inner room) (by is.round_close) spell_argument (ArgumentFits below) Loose (argument_laws inner below ih) as_items b rest
-          (length (spell_all spell_argument as_items b (by is.round_close) rest) + 1) (arguments_fit below args l d) (some_argument args b c) tt (omega arith) in
+      (length (spell_all spell_argument as_items b (by is.round_close) rest) + 1) (arguments_fit below args l d) (some_argument args b c) tt (omega arith) in
       ap (called inner room callee) spelled ∙
       (ap (λ r. r >>= made) all ∙ (ap (λ q. guarded q (Some (call callee (arguments_of as_items) b, rest))) (last_named args k) ∙ ap (λ us. Some (call callee us b, rest)) same_args))
 
@@ -352,7 +339,8 @@ module _ (inner : Level → Reader Tree) (below : ℕ) (ih : IsComplete inner be
     only = λ t rest g m. ih E6 t rest g m;
     starts = comparison_at;
     may_start = λ c rest. let h = comparison_binds c rest in omega arith;
-    longer = comparison_longer }
+    longer = comparison_longer;
+  }
 
   links_only : (ls : List (Comparison × Tree)) (rest : List Word) → AllGood (λ l. Fits 6 below l.1) ls → binds rest < 5 →
       each first_comparison (inner E6) (length (spell_each comparison_then ls rest) + 1) [] (spell_each comparison_then ls rest) ≡ Some (ls, rest)
@@ -370,7 +358,7 @@ module _ (inner : Level → Reader Tree) (below : ℕ) (ih : IsComplete inner be
   by_low_one low low_only t rest f b =
       ap (λ r. r >>= compared_step) (low_only t rest f (omega arith)) ∙
       (on_skip is.is_ (compared_links t rest) (λ vs. guarded (nat_lt (depth t) room) (is_tail inner room t vs)) 5 rest (omega arith) b ∙
-        ap (λ r. r >>= chained inner room t) (links_only [] rest tt b))
+      ap (λ r. r >>= chained inner room t) (links_only [] rest tt b))
 
   compared_only : (low : Reader Tree) → Complete 6 6 room low → Complete 5 5 room (compared inner room low)
   unfolding compared
@@ -388,9 +376,9 @@ module _ (inner : Level → Reader Tree) (below : ℕ) (ih : IsComplete inner be
       let fits : AllGood (λ k. Fits 6 below k.1) ((c, u) ∷ ls) = (record { shaped = l.3; high = l.2; shallow = omega arith }, links_fit below links l.4 (omega arith)) in
       ap (λ r. r >>= compared_step) first ∙
       (on_is_comparison (compared_links t after) (λ vs. guarded (nat_lt (depth t) room) (is_tail inner room t vs)) c (spell u (spell_links links rest)) ∙
-        (ap (compared_links t) spelled ∙
-          (ap (λ r. r >>= chained inner room t) (links_only ((c, u) ∷ ls) rest fits b) ∙
-            (guarded_by (depth t) room (Some (chain t c u (links_of ls), rest)) deep ∙ ap (λ ks. Some (chain t c u ks, rest)) same_links))))
+      (ap (compared_links t) spelled ∙
+      (ap (λ r. r >>= chained inner room t) (links_only ((c, u) ∷ ls) rest fits b) ∙
+      (guarded_by (depth t) room (Some (chain t c u (links_of ls), rest)) deep ∙ ap (λ ks. Some (chain t c u ks, rest)) same_links))))
   compared_only low low_only (is_none true t) rest f b =
       let s = f.shallow in
       let deep : depth t < room = omega arith in
@@ -447,7 +435,7 @@ module _ (inner : Level → Reader Tree) (below : ℕ) (ih : IsComplete inner be
       let third = ih E1 o rest (record { shaped = l.5; high = l.4; shallow = omega arith }) b in
       ap (λ r. r >>= whole_step) first ∙
       (guarded_by (depth t) room (inner E2 after_if >>= λ v. on is.else_ None (else_step t v)) deep ∙
-        (ap (λ r. r >>= λ v. on is.else_ None (else_step t v)) second ∙ ap (λ r. r >>= λ p xs. Some (conditional t u p, xs)) third))
+      (ap (λ r. r >>= λ v. on is.else_ None (else_step t v)) second ∙ ap (λ r. r >>= λ p xs. Some (conditional t u p, xs)) third))
   whole_only low low_only (binary op x y) rest f b = by_low_whole low low_only (binary op x y) rest (record { shaped = f.shaped; high = not_one op; shallow = f.shallow }) b
     where
       not_one : (o : Operator) → 2 ≤ operator_level o

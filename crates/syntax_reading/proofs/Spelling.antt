@@ -1,5 +1,5 @@
 -- What spells a tree, before other words.
-use Rattle.std.proofs.Common.{◌≡◌, ℕ, Bool, true, false, List, [], ◌∷◌, ◌++◌}
+use Rattle.std.proofs.Common.{Bool, true, false, List, [], ◌∷◌}
 use Rattle.py_tree.specs.Expressions as form
 use Rattle.syntax_reading.specs.Words as is
 use Rattle.py_tree.specs.Names.{Name}

@@ -1,12 +1,12 @@
 -- Words and the tokens that they stand for.
-use Rattle.std.proofs.Common.{◌≡◌, ℕ, zero, suc, Bool, true, false, cond, List, [], ◌∷◌, map, ◌++◌, IsTrue, refl, sym, ap, ◌∙◌, ◌==◌, Option, Some, None, arith}
+use Rattle.std.proofs.Common.{◌≡◌, ℕ, zero, suc, Bool, true, false, List, [], ◌∷◌, map, ◌++◌, refl, sym, ap, ◌∙◌, Some, arith}
 use Rattle.std.proofs.lemmas.Bool.Decides.{nat_tests}
 use Rattle.std.specs.Prelude.{if◌then◌else◌}
 use Rattle.std.specs.Str.{bytes_eq}
 use Rattle.std.proofs.lemmas.Slice.Eq.{bytes_eq-Decides}
 use Rattle.lexical_form.specs.Tokens as kind
 use Rattle.syntax_reading.specs.Words as is
-use Rattle.py_tree.specs.Names.{Name, is_among}
+use Rattle.py_tree.specs.Names.{is_among}
 use Rattle.py_tree.specs.declared.token.TokenKind.TheVariants as literal_kind
 use Rattle.lexical_form.specs.Tokens.{Token, token, Kind, spelling}
 use Rattle.syntax_form.specs.Literals.{constants}

@@ -1,12 +1,12 @@
 -- Worked examples are computed: the tokens of a text by the readers of `lexical_form`, the expression by the reader here.
-use Rattle.std.proofs.Common.{◌≡◌, ℕ, Bool, true, false, List, [], ◌∷◌, Option, Some, None, refl, sym, ap, ◌∙◌}
+use Rattle.std.proofs.Common.{◌≡◌, ℕ, Bool, true, List, [], ◌∷◌, Option, Some, None, sym, ap, ◌∙◌}
 use Rattle.std.specs.Prelude.{map}
 use Rattle.std.specs.Str.{is_utf8}
 use Rattle.py_tree.specs.Expressions.{Tree}
-use Rattle.lexical_form.specs.Answer.{Answer, IsAnswer, accepted}
+use Rattle.lexical_form.specs.Answer.{Answer, accepted}
 use Rattle.lexical_form.specs.Tokens.{Token}
 use Rattle.lexical_form.specs.LogicalLines.{Line}
-use Rattle.lexical_form.proofs.Basics.{head_is, tail_is, and_left, and_right}
+use Rattle.lexical_form.proofs.Basics.{head_is, tail_is}
 use Rattle.lexical_form.proofs.WorkedRows.{computed, answer_is}
 use Rattle.syntax_form.specs.Depth.{depth_limit}
 use Rattle.syntax_form.specs.SpelledTokens.{AreTokens}
@@ -55,6 +55,7 @@ all_wanted rows = map wanted rows
 
 pub all_expressions : (rows : List (List ℕ × Option Tree)) → all_seen rows ≡ all_wanted rows → AreExpressions rows
 all_expressions [] e = tt
-all_expressions (row ∷ rows) e =
-    (row_says row (head_is {A = Seen} (seen row.0) (wanted row) (all_seen rows) (all_wanted rows) e),
-     all_expressions rows (tail_is {A = Seen} (seen row.0) (wanted row) (all_seen rows) (all_wanted rows) e))
+all_expressions (row ∷ rows) e = (
+  row_says row (head_is {A = Seen} (seen row.0) (wanted row) (all_seen rows) (all_wanted rows) e),
+  all_expressions rows (tail_is {A = Seen} (seen row.0) (wanted row) (all_seen rows) (all_wanted rows) e),
+)

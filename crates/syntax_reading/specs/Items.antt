@@ -1,5 +1,5 @@
 -- Reading of what is repeated: items with commas between them, and what begins with a word of its own.
-use Rattle.std.specs.Prelude.{ℕ, zero, suc, ◌+◌, Bool, true, false, List, [], ◌∷◌, ◌++◌, length, Some, None}
+use Rattle.std.specs.Prelude.{ℕ, zero, suc, ◌+◌, Bool, false, List, [], ◌∷◌, ◌++◌, length, Some, None}
 use Rattle.py_tree.specs.Expressions.{Tree}
 use Rattle.syntax_reading.specs.Words as is
 use Rattle.syntax_reading.specs.Words.{Fixed}

@@ -1,5 +1,5 @@
 -- Reading of expressions: a tree of at most some depth, and the words behind it. Each level is read over a reader of what lies deeper.
-use Rattle.std.specs.Prelude.{ℕ, zero, suc, ◌+◌, ◌<◌, Bool, true, false, List, [], ◌∷◌, ◌++◌, length, Option, Some, None, nat_lt, option_map}
+use Rattle.std.specs.Prelude.{ℕ, zero, suc, ◌+◌, true, false, List, [], ◌∷◌, length, Option, Some, None, nat_lt, option_map}
 use Rattle.py_tree.specs.FieldFormats.{Convert, Spec}
 use Rattle.py_tree.specs.Names.{Name}
 use Rattle.py_tree.specs.Expressions as form
@@ -47,22 +47,22 @@ module _ (inner : Level → Reader Tree) (room : ℕ) where
   unfoldable pub round : Reader Tree
   round ts = on is.round_close
       (inner E1 ts >>= λ t us. on is.comma
-        (on is.round_close None (λ vs. Some (paren t, vs)) us)
-        (λ vs. items (inner E1) (by is.round_close) (length vs + 1) (t ∷ []) vs >>= λ a ws. Some (tuple (trees_of a.0) a.1, ws)) us)
+      (on is.round_close None (λ vs. Some (paren t, vs)) us)
+      (λ vs. items (inner E1) (by is.round_close) (length vs + 1) (t ∷ []) vs >>= λ a ws. Some (tuple (trees_of a.0) a.1, ws)) us)
       (λ us. Some (tuple none false, us)) ts
 
   unfoldable pub square : Reader Tree
   square ts = on is.square_close
       (inner E1 ts >>= λ t us. on is.for_
-        (items_on (inner E1) (by is.square_close) t us >>= λ a vs. Some (list (trees_of a.0) a.1, vs))
-        (λ vs. clause vs >>= λ c ws. on is.square_close None (λ xs. Some (list_of t c.0 c.1 c.2, xs)) ws) us)
+      (items_on (inner E1) (by is.square_close) t us >>= λ a vs. Some (list (trees_of a.0) a.1, vs))
+      (λ vs. clause vs >>= λ c ws. on is.square_close None (λ xs. Some (list_of t c.0 c.1 c.2, xs)) ws) us)
       (λ us. Some (list none false, us)) ts
 
   unfoldable pub brace : Reader Tree
   brace ts = on is.brace_close
       (key_item ts >>= λ p us. on is.for_
-        (items_on key_item (by is.brace_close) p us >>= λ a vs. Some (dict (pairs_of a.0) a.1, vs))
-        (λ vs. clause vs >>= λ c ws. on is.brace_close None (λ xs. Some (dict_of p.0 p.1 c.0 c.1 c.2, xs)) ws) us)
+      (items_on key_item (by is.brace_close) p us >>= λ a vs. Some (dict (pairs_of a.0) a.1, vs))
+      (λ vs. clause vs >>= λ c ws. on is.brace_close None (λ xs. Some (dict_of p.0 p.1 c.0 c.1 c.2, xs)) ws) us)
       (λ us. Some (dict no_pair false, us)) ts
 
   abbrev pub bracketed : Bracket → Reader Tree
@@ -97,8 +97,8 @@ module _ (inner : Level → Reader Tree) (room : ℕ) where
   abbrev pub indexed : Tree → Reader Tree
   indexed base ts = on is.colon
       (inner E1 ts >>= λ p us. on is.colon
-        (on is.square_close None (λ vs. Some (index base p, vs)) us)
-        (slice_end base (at p)) us)
+      (on is.square_close None (λ vs. Some (index base p, vs)) us)
+      (slice_end base (at p)) us)
       (slice_end base left_out) ts
 
   abbrev pub called : Tree → Reader Tree

@@ -6,7 +6,7 @@ use Rattle.py_tree.specs.Expressions.{Operator, Or, And, Add, Subtract, Multiply
 use Rattle.py_tree.specs.Expressions.{Trees, none, more, Links, done, link, Arguments, no_argument, positional, keyword, Pairs, no_pair, pair}
 use Rattle.syntax_reading.specs.Words as is
 use Rattle.syntax_reading.specs.Words.{Fixed, Word, name, literal, is_free, is_none_literal}
-use Rattle.syntax_reading.specs.Readers.{Reader, ◌>>=◌, on_table, on, guarded, Closing, by, is_some}
+use Rattle.syntax_reading.specs.Readers.{Reader, ◌>>=◌, on_table, on, guarded, by, is_some}
 use Rattle.syntax_reading.specs.Items.{items}
 
 -- the levels at which operands are read

@@ -1,6 +1,6 @@
 -- What a token says to a reader of expressions and lines: the words of the grammar. The readers and their words serve laws and the code
 -- that reads; no definition of the language speaks of them.
-use Rattle.std.specs.Prelude.{ℕ, zero, suc, Bool, true, false, if◌then◌else◌, not, ◌&&◌, ◌==◌, List, [], ◌∷◌, map, Option, Some, None, codes}
+use Rattle.std.specs.Prelude.{ℕ, Bool, true, false, if◌then◌else◌, not, ◌&&◌, ◌==◌, List, [], ◌∷◌, map, Option, Some, None, codes}
 use Rattle.std.specs.Str.{bytes_eq}
 use Rattle.py_tree.specs.Names.{Name, is_among, keywords, unused_keywords}
 use Rattle.py_tree.specs.declared.token.Token as literals

@@ -1,6 +1,6 @@
 -- The words of worked examples: texts with the expressions that they are. No definition speaks of them.
 use Prim.Native.String.{String}
-use Rattle.std.specs.Prelude.{◌≡◌, ℕ, List, [], ◌∷◌, map, codes, ⊤, Option, Some, None}
+use Rattle.std.specs.Prelude.{ℕ, List, [], ◌∷◌, map, codes, ⊤, Option, Some, None}
 use Rattle.py_tree.specs.declared.token.TokenKind.{TokenKind}
 use Rattle.py_tree.specs.declared.token.TokenKind.TheVariants as kind
 use Rattle.py_tree.specs.Expressions as form

@@ -1,6 +1,5 @@
 -- Worked examples of expressions. Where the languages agree, the trees are those of Python's own `ast` (3.11), with the brackets and last commas
 -- that it doesn't keep.
-use Prim.Native.String.{String}
 use Rattle.std.specs.Prelude.{ℕ, zero, suc, true, false, List, [], ◌∷◌, ◌++◌, codes, Option, Some, None}
 use Rattle.py_tree.specs.FieldFormats.{as_is, repr, aligned, right}
 use Rattle.py_tree.specs.Expressions as form
@@ -36,9 +35,9 @@ comparison_rows =
     ∷ row "a in b" (chain (named "a") In (named "b") done)
     ∷ row "a is None" (is_none false (named "a"))
     ∷ row "a is not None" (is_none true (named "a"))
-    -- expressions of Python alone
-    ∷ (all_refused ("a is b" ∷ "a is not b" ∷ "a is None is None" ∷ "a < b is None" ∷ [])
-      ++ all_refused ("a not b" ∷ []))
+    -- Python takes these
+    ∷ all_refused ("a is b" ∷ "a is not b" ∷ "a is None is None" ∷ "a < b is None" ∷ [])
+    ++ all_refused ("a not b" ∷ [])
 
 -- ---- conditionals
 abbrev pub conditional_rows : List (List ℕ × Option Tree)
@@ -63,12 +62,12 @@ postfix_rows =
     ∷ row "f(a,)" (call (named "f") (positional (named "a") no_argument) true)
     ∷ row "f(a, b=1,)" (call (named "f") (positional (named "a") (keyword (codes "b") (number "1") no_argument)) true)
     ∷ row "f(a=1, b=c if d else e)"
-      (call (named "f") (keyword (codes "a") (number "1") (keyword (codes "b") (conditional (named "c") (named "d") (named "e")) no_argument)) false)
+    (call (named "f") (keyword (codes "a") (number "1") (keyword (codes "b") (conditional (named "c") (named "d") (named "e")) no_argument)) false)
     ∷ row "(a).b" (attribute (paren (named "a")) (codes "b"))
     ∷ row "-a.b" (prefixed Minus (attribute (named "a") (codes "b")))
-    -- expressions of Python alone
-    ∷ (all_refused ("f(*a)" ∷ "x[::]" ∷ "x[1:2:3]" ∷ "x[1, 2]" ∷ [])
-      ++ all_refused ("f(b=1, a)" ∷ "f(,)" ∷ "f(a b)" ∷ "f(a, b=1=2)" ∷ "f(1=a)" ∷ "x[]" ∷ "a.1" ∷ "a.if" ∷ []))
+    -- Python takes these
+    ∷ all_refused ("f(*a)" ∷ "x[::]" ∷ "x[1:2:3]" ∷ "x[1, 2]" ∷ [])
+    ++ all_refused ("f(b=1, a)" ∷ "f(,)" ∷ "f(a b)" ∷ "f(a, b=1=2)" ∷ "f(1=a)" ∷ "x[]" ∷ "a.1" ∷ "a.if" ∷ [])
 
 -- ---- names and literals
 abbrev pub leaf_rows : List (List ℕ × Option Tree)
@@ -77,9 +76,9 @@ leaf_rows =
     ∷ row "True" (constant "True")
     ∷ row "print" (named "print")
     ∷ row "'a'" (text "'a'")
-    -- expressions of Python alone
-    ∷ (all_refused ("'a' 'b'" ∷ "1.5" ∷ [])
-      ++ all_refused ("lambda" ∷ "else" ∷ "import" ∷ []))
+    -- Python takes these
+    ∷ all_refused ("'a' 'b'" ∷ "1.5" ∷ [])
+    ++ all_refused ("lambda" ∷ "else" ∷ "import" ∷ [])
 
 -- ---- brackets
 abbrev pub bracket_rows : List (List ℕ × Option Tree)
@@ -96,9 +95,9 @@ bracket_rows =
     ∷ row "{}" (dict no_pair false)
     ∷ row "{1: 2,}" (dict (pair (number "1") (number "2") no_pair) true)
     ∷ row "{a: b, c: (d,)}" (dict (pair (named "a") (named "b") (pair (named "c") (tuple (more (named "d") none) true) no_pair)) false)
-    -- expressions of Python alone
-    ∷ (all_refused ("{a}" ∷ "a, b" ∷ "a," ∷ [])
-      ++ all_refused ("(,)" ∷ "(a b)" ∷ "[,]" ∷ "{,}" ∷ "{a: b, c}" ∷ []))
+    -- Python takes these
+    ∷ all_refused ("{a}" ∷ "a, b" ∷ "a," ∷ [])
+    ++ all_refused ("(,)" ∷ "(a b)" ∷ "[,]" ∷ "{,}" ∷ "{a: b, c}" ∷ [])
 
 -- ---- comprehensions
 abbrev pub comprehension_rows : List (List ℕ × Option Tree)
@@ -106,20 +105,21 @@ comprehension_rows =
     row "[a for a in b]" (list_of (named "a") (codes "a" ∷ []) (named "b") none)
     ∷ row "[a for a, b in c if d if e]" (list_of (named "a") (codes "a" ∷ codes "b" ∷ []) (named "c") (more (named "d") (more (named "e") none)))
     ∷ row "[a + 1 for a in (b if c else d)]"
-      (list_of (binary Add (named "a") (number "1")) (codes "a" ∷ []) (paren (conditional (named "b") (named "c") (named "d"))) none)
+    (list_of (binary Add (named "a") (number "1")) (codes "a" ∷ []) (paren (conditional (named "b") (named "c") (named "d"))) none)
     ∷ row "{a: b for a in c}" (dict_of (named "a") (named "b") (codes "a" ∷ []) (named "c") none)
     ∷ row "{a: b for a, b in c if d}" (dict_of (named "a") (named "b") (codes "a" ∷ codes "b" ∷ []) (named "c") (more (named "d") none))
-    -- expressions of Python alone
-    ∷ (all_refused ("[a for a, in b]" ∷ "[a for (a) in b]" ∷ "[a for a in b for c in d]" ∷ "(a for a in b)" ∷ "{a for a in b}" ∷ [])
-      ++ all_refused ("[a for a in b if c else d]" ∷ "[a, b for a in c]" ∷ []))
+    -- Python takes these
+    ∷ all_refused ("[a for a, in b]" ∷ "[a for (a) in b]" ∷ "[a for a in b for c in d]" ∷ "(a for a in b)" ∷ "{a for a in b}" ∷ [])
+    ++ all_refused ("[a for a in b if c else d]" ∷ "[a, b for a in c]" ∷ [])
+
 -- ---- f-texts
 abbrev pub f_text_rows : List (List ℕ × Option Tree)
 f_text_rows =
     row "f''" (f_text "f''" no_piece)
     ∷ row
     "f\"{a + 1!r:>5}{b}c\""
-      (f_text "f\"{a + 1!r:>5}{b}c\""
-        (field (binary Add (named "a") (number "1")) repr (Some (aligned (Some right) (Some 5) None)) (field (named "b") as_is None (characters (codes "c") no_piece))))
+    (f_text "f\"{a + 1!r:>5}{b}c\""
+    (field (binary Add (named "a") (number "1")) repr (Some (aligned (Some right) (Some 5) None)) (field (named "b") as_is None (characters (codes "c") no_piece))))
     ∷ row "f'{(a, b)}'" (f_text "f'{(a, b)}'" (field (tuple (more (named "a") (more (named "b") none)) false) as_is None no_piece))
     ∷ row "f'' in a" (chain (f_text "f''" no_piece) In (named "a") done)
     ∷ all_refused ("f'{a, b}'" ∷ "f'{a=}'" ∷ "f'{a b}'" ∷ "f'{a if b}'" ∷ "f'{a}' f'{b}'" ∷ [])
