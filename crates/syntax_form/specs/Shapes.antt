@@ -18,6 +18,10 @@ CommaBehindArguments no_argument comma = comma ≡ false
 CommaBehindArguments (positional t args) comma = ⊤
 CommaBehindArguments (keyword x t args) comma = ⊤
 
+abbrev pub CommaBehindNames : List Name → Bool → Type 0
+CommaBehindNames [] comma = comma ≡ false
+CommaBehindNames (x ∷ xs) comma = ⊤
+
 -- one item and a comma, or two items or more
 abbrev pub IsBare : Trees → Bool → Type 0
 IsBare none comma = ⊥
