@@ -25,8 +25,8 @@ abbrev pub head_tokens : Head → List Token
 head_tokens (value t) = tokens t
 head_tokens (assign targets t) = names_tokens targets ++ mark "=" ∷ tokens t
 head_tokens (augment x op t) = name_token x ∷ augment_token op ∷ tokens t
-head_tokens (put_item x position t) = name_token x ∷ (within "[" (tokens position) "]" ++ mark "=" ∷ tokens t)
-head_tokens (augment_item x position op t) = name_token x ∷ (within "[" (tokens position) "]" ++ augment_token op ∷ tokens t)
+head_tokens (put_item x position t) = name_token x ∷ mark "[" ∷ (tokens position ++ mark "]" ∷ mark "=" ∷ tokens t)
+head_tokens (augment_item x position op t) = name_token x ∷ mark "[" ∷ (tokens position ++ mark "]" ∷ augment_token op ∷ tokens t)
 head_tokens (append x t) = name_token x ∷ mark "." ∷ word "append" ∷ within "(" (tokens t) ")"
 head_tokens (extend x t) = name_token x ∷ mark "." ∷ word "extend" ∷ within "(" (tokens t) ")"
 head_tokens (if_line test) = word "if" ∷ (tokens test ++ mark ":" ∷ [])
@@ -35,7 +35,7 @@ head_tokens else_line = word "else" ∷ mark ":" ∷ []
 head_tokens (while_line test) = word "while" ∷ (tokens test ++ mark ":" ∷ [])
 head_tokens (for_line targets from) = word "for" ∷ (names_tokens targets ++ word "in" ∷ (tokens from ++ mark ":" ∷ []))
 head_tokens (def_line x parameters comma) =
-    word "def" ∷ name_token x ∷ (within "(" (names_tokens parameters ++ if_comma comma) ")" ++ mark ":" ∷ [])
+    word "def" ∷ name_token x ∷ mark "(" ∷ (names_tokens parameters ++ (if_comma comma ++ mark ")" ∷ mark ":" ∷ []))
 head_tokens return_line = word "return" ∷ []
 head_tokens (return_value t) = word "return" ∷ tokens t
 head_tokens pass_line = word "pass" ∷ []
@@ -44,7 +44,7 @@ head_tokens continue_line = word "continue" ∷ []
 head_tokens import_marimo = word "import" ∷ word "marimo" ∷ []
 head_tokens import_mo = word "import" ∷ word "marimo" ∷ word "as" ∷ word "mo" ∷ []
 head_tokens (with_cache named t) =
-    word "with" ∷ word "mo" ∷ mark "." ∷ word "cache" ∷ (within "(" (cache_name named t) ")" ++ mark ":" ∷ [])
+    word "with" ∷ word "mo" ∷ mark "." ∷ word "cache" ∷ mark "(" ∷ (cache_name named t ++ mark ")" ∷ mark ":" ∷ [])
 head_tokens cache_decorator = mark "@" ∷ word "mo" ∷ mark "." ∷ word "cache" ∷ []
 head_tokens cell_decorator = mark "@" ∷ word "app" ∷ mark "." ∷ word "cell" ∷ []
 head_tokens (cell_decorator_with args comma) = mark "@" ∷ word "app" ∷ mark "." ∷ word "cell" ∷ argument_list args comma

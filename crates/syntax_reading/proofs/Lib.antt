@@ -18,3 +18,6 @@ pub mod Regrouping
 pub mod LevelledLaws
 pub mod ExpressionLaws
 pub mod WorkedRows
+pub mod ShapedLines
+pub mod LinePieces
+pub mod LineForms

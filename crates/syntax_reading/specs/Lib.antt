@@ -1,4 +1,7 @@
 pub mod Items
+pub mod LineForms
+pub mod LinePieces
+pub mod LineReading
 pub mod Readers
 pub mod Reading
 pub mod Tables
