@@ -42,7 +42,7 @@ literal_may_be literal_kind.Number cs h = refl
 literal_may_be literal_kind.Text cs h = refl
 literal_may_be literal_kind.Mark cs h = absurd h
 
-shaping : Change IsName IsFree IsLiteral MayBeLiteral IsFTextSpelling AnyFText AnyTokens
+pub shaping : Change IsName IsFree IsLiteral MayBeLiteral IsFTextSpelling AnyFText AnyTokens
 shaping = record {
   before = λ us vs h. tt;
   behind = λ us vs h. tt;
@@ -77,7 +77,7 @@ spelled_fields no_piece h = tt
 spelled_fields (characters cs ps) h = spelled_fields ps h
 spelled_fields (field t convert spec ps) h = (subst AreTokens (list_of_tokens (tokens t)) h.0, spelled_fields ps h.1)
 
-levelling : Change IsFree IsName MayBeLiteral IsLiteral AnyFText IsFTextSpelling AreTokens
+pub levelling : Change IsFree IsName MayBeLiteral IsLiteral AnyFText IsFTextSpelling AreTokens
 levelling = record {
   before = tokens_before;
   behind = tokens_behind;

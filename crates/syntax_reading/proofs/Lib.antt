@@ -21,3 +21,6 @@ pub mod WorkedRows
 pub mod ShapedLines
 pub mod LinePieces
 pub mod LineForms
+pub mod LineRegrouping
+pub mod LineOrder
+pub mod LineLaws

@@ -29,13 +29,13 @@ pub record Change (N N' : Name → Type 0) (L L' : TokenKind → List ℕ → Ty
   pub fields : (cs : List ℕ) (ps : Pieces) → Each (token.token (token.f_text (token_pieces ps)) cs ∷ []) → Fields Each ps
 
 module _ {N N' : Name → Type 0} {L L' : TokenKind → List ℕ → Type 0} {F F' : List ℕ → token.Pieces → Type 0} {Each : List Token → Type 0} (c : Change N N' L L' F F' Each) where
-  later_named : (xs : List Name) → Each (later_names xs) → AreEach N xs → AreEach N' xs
+  pub later_named : (xs : List Name) → Each (later_names xs) → AreEach N xs → AreEach N' xs
   later_named [] h l = tt
   later_named (x ∷ xs) h l =
       let here = c.rest (mark ",") (name_token x ∷ later_names xs) h in
       (c.named x (later_names xs) here l.0, later_named xs (c.rest (name_token x) (later_names xs) here) l.1)
 
-  targets_named : (xs : List Name) → Each (names_tokens xs) → AreTargets N xs → AreTargets N' xs
+  pub targets_named : (xs : List Name) → Each (names_tokens xs) → AreTargets N xs → AreTargets N' xs
   targets_named [] h l = l
   targets_named (x ∷ xs) h l = (c.named x (later_names xs) h l.0, later_named xs (c.rest (name_token x) (later_names xs) h) l.1)
 

@@ -4,5 +4,5 @@
 mod laws;
 mod worked;
 
-pub use laws::{expressions_are_read, spelled_once};
+pub use laws::{expressions_are_read, lines_are_read, lines_are_spelled_once, spelled_once};
 pub use worked::worked_expressions;
