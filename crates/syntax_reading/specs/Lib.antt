@@ -8,3 +8,4 @@ pub mod Tables
 pub mod Words
 pub mod Worked
 pub mod WorkedExpressions
+pub mod WorkedLines

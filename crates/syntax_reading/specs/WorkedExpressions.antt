@@ -126,10 +126,10 @@ f_text_rows =
 
 -- ---- depths
 -- brackets round `1`
-abbrev bracketed : ℕ → List ℕ
+abbrev pub bracketed : ℕ → List ℕ
 bracketed n = repeated n 40 ++ 49 ∷ repeated n 41
 
-abbrev in_brackets : ℕ → Tree
+abbrev pub in_brackets : ℕ → Tree
 in_brackets zero = number "1"
 in_brackets (suc n) = paren (in_brackets n)
 

@@ -5,4 +5,4 @@ mod laws;
 mod worked;
 
 pub use laws::{expressions_are_read, lines_are_read, lines_are_spelled_once, spelled_once};
-pub use worked::worked_expressions;
+pub use worked::{worked_expressions, worked_lines};
