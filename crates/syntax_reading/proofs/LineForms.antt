@@ -1,33 +1,21 @@
 -- The forms of lines: each line of the grammar is spelled by its form's template.
-use Rattle.std.proofs.Common.{◌≡◌, ℕ, zero, suc, ◌+◌, ◌<◌, ◌≤◌, max, Bool, true, false, List, [], ◌∷◌, ◌++◌, Option, Some, None, refl, sym, ap, ◌∙◌, subst, codes, arith}
-use Rattle.py_tree.specs.declared.token.Token as literals
-use Rattle.py_tree.specs.declared.token.TokenKind.{TokenKind}
-use Rattle.py_tree.specs.declared.token.TokenKind.TheVariants as literal_kind
-use Rattle.std.specs.Prelude.{if◌then◌else◌}
+use Rattle.std.proofs.Common.{◌≡◌, ℕ, suc, ◌≤◌, true, false, List, [], ◌∷◌, Some, refl, sym, ap, ◌∙◌, subst, codes, arith}
 use Rattle.syntax_reading.specs.Words as is
-use Rattle.py_tree.specs.Names.{Name}
-use Rattle.lexical_form.specs.Tokens.{Token}
-use Rattle.syntax_form.specs.Printing.{mark}
-use Rattle.py_tree.specs.Expressions.{Tree, bare, Arguments}
+use Rattle.py_tree.specs.Expressions.{Tree, bare}
 use Rattle.py_tree.specs.Trees.{Augment, AddTo, SubtractFrom, MultiplyBy, FloorBy, RemainderBy, Head, value, assign, augment, put_item, augment_item, append, extend, if_line, elif_line, else_line, while_line, for_line, def_line, return_line, return_value, pass_line, break_line, continue_line, import_marimo, import_mo, with_cache, cache_decorator, cell_decorator, cell_decorator_with, app_line}
-use Rattle.syntax_reading.proofs.ShapedLines.{ShapedAt, ArgumentListShaped, TextShaped, HeadShaped}
-use Rattle.syntax_form.specs.Printing.{name_token, tokens, list_tokens, argument_tokens, names_tokens, if_comma}
-use Rattle.syntax_form.specs.Depth.{depth, argument_depth}
-use Rattle.syntax_form.specs.Levels.{level}
-use Rattle.syntax_reading.proofs.Shaped.{IsFree, AreFree, AreFreeTargets, Shaped, ArgumentsShaped}
-use Rattle.syntax_form.specs.Shapes.{NamedLast, CommaBehindArguments, CommaBehindNames}
-use Rattle.syntax_form.specs.LinePrinting.{augment_token, argument_list, head_tokens}
-use Rattle.syntax_reading.specs.LinePieces.{word, Piece, exact, any_name, tree, tee, names_to, parameters, arguments, text, augment_mark, Slot, nothing, a_name, a_tree, some_names, some_arguments, a_text, an_augment}
+use Rattle.syntax_reading.proofs.ShapedLines.{HeadShaped}
+use Rattle.syntax_form.specs.Printing.{tokens, list_tokens, if_comma}
+use Rattle.syntax_reading.proofs.Shaped.{Shaped}
+use Rattle.syntax_form.specs.LinePrinting.{augment_token, head_tokens}
+use Rattle.syntax_reading.specs.LinePieces.{Slot, nothing, a_name, a_tree, some_names, some_arguments, a_text, an_augment}
 use Rattle.syntax_form.specs.Lines.{head_depth}
-use Rattle.syntax_form.specs.LineGrouping.{IsText}
 use Rattle.syntax_reading.specs.Words.{Fixed, fixed_token, Word, name, literal, fixed, word_of}
 use Rattle.syntax_reading.specs.Readers.{Closing, by, at_end}
-use Rattle.syntax_reading.proofs.Spelling.{closes, closed, spell_all, spell_name, spell_names, spell, spell_arguments}
+use Rattle.syntax_reading.proofs.Spelling.{closes}
 use Rattle.syntax_reading.proofs.WordLaws.{before, before_append, word_of_fixed}
-use Rattle.syntax_reading.proofs.SpellingLaws.{word_of_name, first_is, named_is, comma_is, word_of_literal, names_are, targets_are, spell_is, list_is, arguments_are}
-use Rattle.syntax_reading.proofs.Lists.{Fits}
+use Rattle.syntax_reading.proofs.SpellingLaws.{word_of_name, comma_is, word_of_literal, names_are, targets_are, spell_is, list_is, arguments_are}
 use Rattle.syntax_reading.specs.LineForms.{Form, Value, Assign, AugmentName, PutItem, AugmentItem, Append, Extend, IfLine, ElifLine, ElseLine, WhileLine, ForLine, DefLine, Return, ReturnValue, Pass, Break, Continue, ImportMarimo, ImportMo, WithCache, WithNamedCache, CacheDecorator, CellDecorator, CellDecoratorWith, App, template, make}
-use Rattle.syntax_reading.proofs.LinePieces.{augment_word, spell_tee, spell_pieces, tee_end, tee_colon, Good, GoodPieces, Fine}
+use Rattle.syntax_reading.proofs.LinePieces.{augment_word, spell_tee, spell_pieces, tee_colon, GoodPieces, Fine}
 
 abbrev pub form_of : Head → Form
 form_of (value t) = Value
@@ -146,8 +134,16 @@ head_words (while_line t) l = simp (before_append, word_of_fixed is.while_, word
 head_words (for_line xs t) l =
     simp (before_append, word_of_fixed is.for_, word_of_fixed is.in_, word_of_fixed is.colon, targets_are xs is.in_ l.0, tee_is (by is.colon) t [] l.1.1)
 head_words (def_line x xs b) l =
-    simp (before_append, word_of_name x l.0, word_of_fixed is.def_, word_of_fixed is.round_open, word_of_fixed is.round_close, word_of_fixed is.colon,
-      names_are xs b is.round_close (fixed is.colon ∷ []) l.1, comma_is b (by is.round_close))
+    simp (
+      before_append,
+      word_of_name x l.0,
+      word_of_fixed is.def_,
+      word_of_fixed is.round_open,
+      word_of_fixed is.round_close,
+      word_of_fixed is.colon,
+      names_are xs b is.round_close (fixed is.colon ∷ []) l.1,
+      comma_is b (by is.round_close),
+    )
 head_words return_line l = simp (word_of_fixed is.return_)
 head_words (return_value t) l = simp (word_of_fixed is.return_, tee_is at_end t [] l.1)
 head_words pass_line l = simp (word_of_fixed is.pass_)
@@ -156,19 +152,56 @@ head_words continue_line l = simp (word_of_fixed is.continue_)
 head_words import_marimo l = simp (word_of_fixed is.import_, word_of_name (codes "marimo") refl)
 head_words import_mo l = simp (word_of_fixed is.import_, word_of_fixed is.as_, word_of_name (codes "marimo") refl, word_of_name (codes "mo") refl)
 head_words (with_cache false t) l =
-    simp (word_of_fixed is.with_, word_of_fixed is.dot, word_of_fixed is.round_open, word_of_fixed is.round_close, word_of_fixed is.colon, word_of_name (codes "mo") refl,
-      word_of_name (codes "cache") refl, word_of_literal t l.1)
+    simp (
+      word_of_fixed is.with_,
+      word_of_fixed is.dot,
+      word_of_fixed is.round_open,
+      word_of_fixed is.round_close,
+      word_of_fixed is.colon,
+      word_of_name (codes "mo") refl,
+      word_of_name (codes "cache") refl,
+      word_of_literal t l.1,
+    )
 head_words (with_cache true t) l =
-    simp (word_of_fixed is.with_, word_of_fixed is.dot, word_of_fixed is.round_open, word_of_fixed is.round_close, word_of_fixed is.colon, word_of_fixed is.assign,
-      word_of_name (codes "mo") refl, word_of_name (codes "cache") refl, word_of_name (codes "name") refl, word_of_literal t l.1)
+    simp (
+      word_of_fixed is.with_,
+      word_of_fixed is.dot,
+      word_of_fixed is.round_open,
+      word_of_fixed is.round_close,
+      word_of_fixed is.colon,
+      word_of_fixed is.assign,
+      word_of_name (codes "mo") refl,
+      word_of_name (codes "cache") refl,
+      word_of_name (codes "name") refl,
+      word_of_literal t l.1,
+    )
 head_words cache_decorator l = simp (word_of_fixed is.at_sign, word_of_fixed is.dot, word_of_name (codes "mo") refl, word_of_name (codes "cache") refl)
 head_words cell_decorator l = simp (word_of_fixed is.at_sign, word_of_fixed is.dot, word_of_name (codes "app") refl, word_of_name (codes "cell") refl)
 head_words (cell_decorator_with args b) l =
-    simp (before_append, word_of_fixed is.at_sign, word_of_fixed is.dot, word_of_fixed is.round_open, word_of_fixed is.round_close, word_of_name (codes "app") refl,
-      word_of_name (codes "cell") refl, comma_is b (by is.round_close), arguments_are args b l.0)
+    simp (
+      before_append,
+      word_of_fixed is.at_sign,
+      word_of_fixed is.dot,
+      word_of_fixed is.round_open,
+      word_of_fixed is.round_close,
+      word_of_name (codes "app") refl,
+      word_of_name (codes "cell") refl,
+      comma_is b (by is.round_close),
+      arguments_are args b l.0,
+    )
 head_words (app_line args b) l =
-    simp (before_append, word_of_fixed is.assign, word_of_fixed is.dot, word_of_fixed is.round_open, word_of_fixed is.round_close, word_of_name (codes "app") refl,
-      word_of_name (codes "marimo") refl, word_of_name (codes "App") refl, comma_is b (by is.round_close), arguments_are args b l.0)
+    simp (
+      before_append,
+      word_of_fixed is.assign,
+      word_of_fixed is.dot,
+      word_of_fixed is.round_open,
+      word_of_fixed is.round_close,
+      word_of_name (codes "app") refl,
+      word_of_name (codes "marimo") refl,
+      word_of_name (codes "App") refl,
+      comma_is b (by is.round_close),
+      arguments_are args b l.0,
+    )
 
 -- ---- what a line's slots hold
 

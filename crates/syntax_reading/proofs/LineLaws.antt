@@ -1,5 +1,5 @@
 -- Reading gives the line that tokens are, and only that one.
-use Rattle.std.proofs.Common.{◌≡◌, ℕ, zero, suc, ◌+◌, ◌<◌, ◌≤◌, max, ◌⊎◌, inl, inr, Bool, true, false, List, [], ◌∷◌, ◌++◌, Option, Some, None, refl, sym, ap, ◌∙◌, subst, arith}
+use Rattle.std.proofs.Common.{◌≡◌, ℕ, suc, ◌≤◌, max, inl, inr, List, [], ◌∷◌, Option, Some, None, refl, sym, ap, ◌∙◌, subst, arith}
 use Rattle.lexical_form.specs.Tokens.{Token}
 use Rattle.py_tree.specs.Trees.{Head}
 use Rattle.syntax_form.specs.LinePrinting.{head_tokens}
@@ -8,13 +8,13 @@ use Rattle.syntax_form.specs.SpelledTokens.{AreTokens}
 use Rattle.syntax_form.specs.Lines.{HeadLevelled, head_depth, place, SpellsLine, IsLine}
 use Rattle.syntax_reading.proofs.ShapedLines.{HeadShaped}
 use Rattle.syntax_reading.specs.Words.{Word, words}
-use Rattle.syntax_reading.proofs.WordLaws.{before, before_nil, words_same}
+use Rattle.syntax_reading.proofs.WordLaws.{before_nil, words_same}
 use Rattle.syntax_reading.specs.LinePieces.{Slot, pieces}
 use Rattle.syntax_reading.specs.LineForms.{Form, template, make}
 use Rattle.syntax_reading.specs.LineReading.{made, forms, one_form, or_else, first_form, read_line}
 use Rattle.syntax_reading.proofs.LinePieces.{spell_pieces, GoodPieces, pieces_found, pieces_only}
 use Rattle.syntax_reading.proofs.LineForms.{form_of, slots, make_slots, head_words, head_good, head_shaped, made_is, fine}
-use Rattle.syntax_reading.proofs.LineOrder.{rank, place_is, same_form, Among, AtMost, Falling, at_most, among_at_most, falling_rest, falling, among}
+use Rattle.syntax_reading.proofs.LineOrder.{rank, place_is, same_form, Among, Falling, at_most, among_at_most, falling_rest, falling, among}
 use Rattle.syntax_reading.proofs.LineRegrouping.{head_regrouped}
 use Rattle.syntax_reading.proofs.LevelledLaws.{shaping, levelling}
 
@@ -81,11 +81,13 @@ first_is_latest (g ∷ gs) ts h s e = by_one (one_form 63 g (words ts)) refl e (
         let f = one_found g ts h (i ∙ ap Some same_line) in
         (record { spells = f.spells; form_is = refl }, λ o other a q. subst (λ n. rank o ≤ rank n) (sym f.form_is) (among_at_most (rank g) o (g ∷ gs) a (at_most (rank g) g gs (omega arith) s)))
     by_one None i j later =
-        let l = later j in
-        (l.0, λ o other a q. elim a [
-          | inl same_one ↦ (let one : one_form 63 g (words ts) ≡ Some other = subst (λ n. one_form 63 n (words ts) ≡ Some other) same_one q in absurd (cc (one, i)))
-          | inr b ↦ l.1 o other b q
-        ])
+        let l = later j in (
+          l.0,
+          λ o other a q. elim a [
+            | inl same_one ↦ (let one : one_form 63 g (words ts) ≡ Some other = subst (λ n. one_form 63 n (words ts) ≡ Some other) same_one q in absurd (cc (one, i)))
+            | inr b ↦ l.1 o other b q
+          ],
+        )
 
 some_first : (fs : List Form) (f : Form) (ws : List Word) (h : Head) → Among f fs → one_form 63 f ws ≡ Some h → (k : Head) × (first_form fs ws ≡ Some k)
 unfolding first_form
@@ -117,7 +119,8 @@ line_found ts h spelled e =
     let l = first_is_latest forms ts h falling e in
     record {
       spells = spells_line ts h spelled l.0.spells;
-      latest = λ other s. let r = l.1 (form_of other) other (among (form_of other)) (one_only ts other (spells_shaped ts other s)) in omega (arith, place_is other, place_is h) }
+      latest = λ other s. let r = l.1 (form_of other) other (among (form_of other)) (one_only ts other (spells_shaped ts other s)) in omega (arith, place_is other, place_is h);
+    }
 
 -- two lines of one form with the same tokens are the same line, however deep
 pub one_of_form : (h k : Head) → HeadLevelled h → HeadLevelled k → place h ≡ place k → head_tokens h ≡ head_tokens k → h ≡ k

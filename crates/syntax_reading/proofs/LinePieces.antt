@@ -1,8 +1,7 @@
 -- The pieces of a line: what reading gives is spelled so, and what is spelled so is read.
-use Rattle.std.proofs.Common.{◌≡◌, ℕ, zero, suc, ◌+◌, ◌<◌, ◌≤◌, max, ◌⊎◌, inl, inr, Bool, true, false, cond, ◌&&◌, IsTrue, List, [], ◌∷◌, ◌++◌, length, Option, Some, None, refl, sym, ap, ◌∙◌, subst, nat_lt, arith}
+use Rattle.std.proofs.Common.{◌≡◌, ℕ, suc, ◌+◌, ◌<◌, ◌≤◌, inl, inr, Bool, true, false, List, [], ◌∷◌, length, Option, Some, None, refl, sym, ap, ◌∙◌, subst, nat_lt, arith}
 use Rattle.std.specs.Str.{bytes_eq}
 use Rattle.std.proofs.lemmas.Slice.Eq.{bytes_eq-Decides}
-use Rattle.py_tree.specs.declared.token.Token as literals
 use Rattle.py_tree.specs.declared.token.TokenKind.{TokenKind}
 use Rattle.py_tree.specs.declared.token.TokenKind.TheVariants as literal_kind
 use Rattle.std.specs.Prelude.{if◌then◌else◌}
@@ -13,19 +12,19 @@ use Rattle.syntax_reading.specs.Words.{is_free, Fixed, Word, name, literal, fixe
 use Rattle.py_tree.specs.Expressions.{Operator, Prefix, binary, prefixed, Tree, bare, trees_of, Trees, none, more, Arguments}
 use Rattle.py_tree.specs.Trees.{Augment, AddTo, SubtractFrom, MultiplyBy, FloorBy, RemainderBy}
 use Rattle.syntax_form.specs.Levels.{operator_level, prefix_level, level}
-use Rattle.syntax_form.specs.Depth.{depth, list_depth, argument_depth}
-use Rattle.syntax_reading.proofs.Shaped.{IsFree, AreFree, AreFreeTargets, Shaped, AllShaped, ArgumentsShaped}
+use Rattle.syntax_form.specs.Depth.{depth, argument_depth}
+use Rattle.syntax_reading.proofs.Shaped.{IsFree, AreFree, AreFreeTargets, ArgumentsShaped}
 use Rattle.syntax_form.specs.Shapes.{IsBare, CommaBehindArguments, NamedLast, CommaBehindNames}
 use Rattle.syntax_form.specs.LineGrouping.{IsText}
 use Rattle.syntax_reading.proofs.Shaped.{MayBeLiteral}
 use Rattle.syntax_reading.proofs.ShapedLines.{TextShaped}
-use Rattle.syntax_reading.proofs.Binding.{binding, binds, opening, opens}
-use Rattle.syntax_reading.specs.Readers.{Read, Reader, ◌>>=◌, on_table, on, guarded, Closing, by, at_end, on_closing, is_some}
-use Rattle.syntax_reading.specs.Items.{after_item, items}
+use Rattle.syntax_reading.proofs.Binding.{binding, binds}
+use Rattle.syntax_reading.specs.Readers.{Read, Reader, ◌>>=◌, on, guarded, Closing, by, at_end, on_closing, is_some}
+use Rattle.syntax_reading.specs.Items.{items}
 use Rattle.syntax_reading.specs.Tables.{E1, first_name, targets, Argument, arguments_of, named_last}
 use Rattle.syntax_reading.specs.Reading.{argument, read}
-use Rattle.syntax_reading.proofs.Spelling.{closes, closed, spell_more, spell_all, spell_name, spell_names, spell, spell_list, spell_later, spell_arguments}
-use Rattle.syntax_reading.proofs.Choices.{bind_ok, guarded_ok, lt_of, Took, on_ok, on_only_ok, on_table_ok, on_closing_ok, Ends}
+use Rattle.syntax_reading.proofs.Spelling.{closes, spell_more, spell_all, spell_name, spell_names, spell, spell_list, spell_arguments}
+use Rattle.syntax_reading.proofs.Choices.{bind_ok, guarded_ok, lt_of, on_ok, on_only_ok, on_table_ok, on_closing_ok, Ends}
 use Rattle.syntax_reading.proofs.ItemsFound.{AllGood, is_many, ClosesApart, items_all, items_later_all, items_many}
 use Rattle.syntax_reading.proofs.Lists.{Fits, list_trees, trees_of_list, all_fit, list_of_items, all_shaped, spell_argument, ArgumentFits, arguments_of_items, arguments_shaped, argument_comma, named_are_last, list_arguments, arguments_of_list, arguments_fit, last_named, some_argument, are_names, names_good}
 use Rattle.syntax_reading.proofs.FoundParts.{name_found, targets_found, tree_item, argument_item}
@@ -77,7 +76,8 @@ pub tee_end : CloseTee at_end
 tee_end = record {
   apart = λ us rest e h. let none_left : fixed is.comma ∷ us ≡ [] = h ∙ e in absurd (cc (none_left));
   fine = tt;
-  loose = λ rest e. rw e (omega arith) }
+  loose = λ rest e. rw e (omega arith);
+}
 
 pub tee_colon : CloseTee (by is.colon)
 tee_colon = record { apart = λ us rest e h. cc (h); fine = (refl, refl); loose = λ rest e. omega arith }
@@ -186,16 +186,18 @@ module _ (below : ℕ) where
             subst (λ p. Tee c ts p.0 p.1) pair_is (record {
               spelled = a.spelled ∙ sym (list_of_items xs q.0.0.1 c q.0.1);
               fits = record { shaped = (l.0, is_bare xs q.0.0.1 many); high = omega arith; shallow = omega arith };
-              ends = a.ends }))
+              ends = a.ends;
+            }))
         | inr o ↦ elim (on_closing_ok c None (λ vs. Some (t, vs)) b.0.1 y o) [
-            | inl k ↦ (
-                let pair_is : ◌≡◌ {A = Tree × List Word} (t, k.0) y = cc (k.2) in
-                subst (λ p. Tee c ts p.0 p.1) pair_is (record {
-                  spelled = f.spelled ∙ (ap (spell t) k.1 ∙ spell_one c t k.0 f.fits.high);
-                  fits = record { shaped = f.fits.shaped; high = omega arith; shallow = f.fits.shallow };
-                  ends = k.3 }))
-            | inr n ↦ absurd (cc)
-          ]
+          | inl k ↦ (
+              let pair_is : ◌≡◌ {A = Tree × List Word} (t, k.0) y = cc (k.2) in
+              subst (λ p. Tee c ts p.0 p.1) pair_is (record {
+                spelled = f.spelled ∙ (ap (spell t) k.1 ∙ spell_one c t k.0 f.fits.high);
+                fits = record { shaped = f.fits.shaped; high = omega arith; shallow = f.fits.shallow };
+                ends = k.3;
+              }))
+          | inr n ↦ absurd (cc)
+        ]
       ]
 
   abbrev tee_made : List Tree × Bool → Reader Tree

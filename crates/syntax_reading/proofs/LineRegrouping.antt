@@ -1,5 +1,5 @@
 -- A line stays grouped where its names, literals and f-texts pass other tests instead, as an expression does.
-use Rattle.std.proofs.Common.{◌≡◌, ℕ, Bool, true, false, List, [], ◌∷◌, ◌++◌}
+use Rattle.std.proofs.Common.{ℕ, Bool, true, false, List, [], ◌∷◌, ◌++◌}
 use Rattle.py_tree.specs.Names.{Name}
 use Rattle.py_tree.specs.declared.token.TokenKind.{TokenKind}
 use Rattle.py_tree.specs.Trees.{Arguments, Head, value, assign, augment, put_item, augment_item, append, extend, if_line, elif_line, else_line, while_line, for_line, def_line, return_line, return_value, pass_line, break_line, continue_line, import_marimo, import_mo, with_cache, cache_decorator, cell_decorator, cell_decorator_with, app_line}
@@ -21,7 +21,6 @@ module _ {N N' : Name → Type 0} {L L' : TokenKind → List ℕ → Type 0} {F 
       let inside = argument_tokens args ++ if_comma b in
       let a = c.before inside (mark ")" ∷ []) (c.rest (mark "(") (inside ++ mark ")" ∷ []) h) in
       (arguments_regrouped c args (c.before (argument_tokens args) (if_comma b) a) l.0, l.1, l.2)
-
 
   pub head_regrouped : (h : Head) → Each (head_tokens h) → HeadGrouped N L F h → HeadGrouped N' L' F' h
   head_regrouped (value t) e l = (l.0, regrouped c t e l.1)
@@ -68,13 +67,13 @@ module _ {N N' : Name → Type 0} {L L' : TokenKind → List ℕ → Type 0} {F 
   head_regrouped (with_cache false t) e l =
       let last = literal_token t ∷ mark ")" ∷ mark ":" ∷ [] in
       let a = c.rest (mark "(") last (c.rest (word "cache") (mark "(" ∷ last) (c.rest (mark ".") (word "cache" ∷ mark "(" ∷ last)
-          (c.rest (word "mo") (mark "." ∷ word "cache" ∷ mark "(" ∷ last) (c.rest (word "with") (word "mo" ∷ mark "." ∷ word "cache" ∷ mark "(" ∷ last) e)))) in
+      (c.rest (word "mo") (mark "." ∷ word "cache" ∷ mark "(" ∷ last) (c.rest (word "with") (word "mo" ∷ mark "." ∷ word "cache" ∷ mark "(" ∷ last) e)))) in
       (l.0, c.literally t (c.before (literal_token t ∷ []) (mark ")" ∷ mark ":" ∷ []) a) l.1)
   head_regrouped (with_cache true t) e l =
       let end = literal_token t ∷ mark ")" ∷ mark ":" ∷ [] in
       let last = word "name" ∷ mark "=" ∷ end in
       let a = c.rest (mark "(") last (c.rest (word "cache") (mark "(" ∷ last) (c.rest (mark ".") (word "cache" ∷ mark "(" ∷ last)
-          (c.rest (word "mo") (mark "." ∷ word "cache" ∷ mark "(" ∷ last) (c.rest (word "with") (word "mo" ∷ mark "." ∷ word "cache" ∷ mark "(" ∷ last) e)))) in
+      (c.rest (word "mo") (mark "." ∷ word "cache" ∷ mark "(" ∷ last) (c.rest (word "with") (word "mo" ∷ mark "." ∷ word "cache" ∷ mark "(" ∷ last) e)))) in
       let b = c.rest (mark "=") end (c.rest (word "name") (mark "=" ∷ end) a) in
       (l.0, c.literally t (c.before (literal_token t ∷ []) (mark ")" ∷ mark ":" ∷ []) b) l.1)
   head_regrouped (cell_decorator_with args b) e l =
@@ -84,7 +83,7 @@ module _ {N N' : Name → Type 0} {L L' : TokenKind → List ℕ → Type 0} {F 
   head_regrouped (app_line args b) e l =
       let list = argument_list args b in
       let a = c.rest (word "App") list (c.rest (mark ".") (word "App" ∷ list) (c.rest (word "marimo") (mark "." ∷ word "App" ∷ list)
-          (c.rest (mark "=") (word "marimo" ∷ mark "." ∷ word "App" ∷ list) (c.rest (word "app") (mark "=" ∷ word "marimo" ∷ mark "." ∷ word "App" ∷ list) e)))) in
+      (c.rest (mark "=") (word "marimo" ∷ mark "." ∷ word "App" ∷ list) (c.rest (word "app") (mark "=" ∷ word "marimo" ∷ mark "." ∷ word "App" ∷ list) e)))) in
       list_regrouped args b a l
   head_regrouped else_line e l = tt
   head_regrouped return_line e l = tt

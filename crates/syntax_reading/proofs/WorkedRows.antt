@@ -69,9 +69,10 @@ module _ {A : Type 0} (Is : List Token → A → Type 0) (reader : List Token �
 
   are_rows : (rows : List (Row A)) → Computed reader rows → AreRows Is rows
   are_rows [] e = tt
-  are_rows (row ∷ rows) e =
-      (row_says row (head_is {A = Seen A} (seen reader row.0) (wanted reader row) (all_seen reader rows) (all_wanted reader rows) e),
-       are_rows rows (tail_is {A = Seen A} (seen reader row.0) (wanted reader row) (all_seen reader rows) (all_wanted reader rows) e))
+  are_rows (row ∷ rows) e = (
+    row_says row (head_is {A = Seen A} (seen reader row.0) (wanted reader row) (all_seen reader rows) (all_wanted reader rows) e),
+    are_rows rows (tail_is {A = Seen A} (seen reader row.0) (wanted reader row) (all_seen reader rows) (all_wanted reader rows) e),
+  )
 
 pub are_expressions : (rows : List (Row Tree)) → Computed (read_expression depth_limit) rows → AreExpressions rows
 are_expressions rows e =

@@ -1,5 +1,4 @@
 -- Worked examples of lines. Where the languages agree, the trees are those of Python's own `ast` (3.11).
-use Prim.Native.String.{String}
 use Rattle.std.specs.Prelude.{ℕ, true, false, List, [], ◌∷◌, ◌++◌, codes, Option, Some, None}
 use Rattle.py_tree.specs.Trees.{Or, Add, Equal, Less, conditional, binary, chain, call, attribute, paren, tuple, list, bare, none, more, done, no_argument, positional, keyword}
 use Rattle.py_tree.specs.Trees.{AddTo, SubtractFrom, MultiplyBy, FloorBy, RemainderBy, Head, value, assign, augment, put_item, augment_item, append, extend, if_line, elif_line, else_line, while_line, for_line, def_line, return_line, return_value, pass_line, break_line, continue_line, import_marimo, import_mo, with_cache, cache_decorator, cell_decorator, cell_decorator_with, app_line}
@@ -44,7 +43,7 @@ assignment_rows =
     ∷ row "x[1] += 2" (augment_item (codes "x") (number "1") AddTo (number "2"))
     -- Python takes these
     ∷ all_refused ("a, = b" ∷ "(a) = b" ∷ "a = b = c" ∷ "a: int = 1" ∷ "*a, b = c" ∷ "x.y = 1" ∷ "x[1] = 2, 3" ∷ "x[1][2] = a" ∷ "x[1:2] = a" ∷
-      "a += 1, 2" ∷ "a **= 2" ∷ [])
+    "a += 1, 2" ∷ "a **= 2" ∷ [])
     ++ all_refused ("a =" ∷ "a, b += 1" ∷ "None = a" ∷ "x = lambda" ∷ [])
 
 -- ---- blocks
@@ -65,7 +64,7 @@ block_rows =
     ∷ row "with mo.cache(name='t'):" (with_cache true (a_text "'t'"))
     -- Python takes these
     ∷ all_refused ("for a, in b:" ∷ "for x[1] in b:" ∷ "def f(a=1):" ∷ "def f(*a):" ∷ "def f() -> a:" ∷ "with mo.cache(t):" ∷
-      "with mo.cache():" ∷ "with mo.cache(\"t\") as a:" ∷ "class A:" ∷ "try:" ∷ "async def f():" ∷ [])
+    "with mo.cache():" ∷ "with mo.cache(\"t\") as a:" ∷ "class A:" ∷ "try:" ∷ "async def f():" ∷ [])
     ++ all_refused ("if a" ∷ "if a, b:" ∷ "else a:" ∷ "while:" ∷ "def f:" ∷ "def f(,):" ∷ [])
 
 -- ---- ends, imports and decorators
@@ -88,8 +87,9 @@ other_rows =
     ∷ row "app = marimo.App(width=\"full\")" (app_line (keyword (codes "width") (text "\"full\"") no_argument) false)
     -- Python takes these
     ∷ all_refused ("import os" ∷ "import marimo as m" ∷ "import marimo, os" ∷ "from a import b" ∷ "global a" ∷ "@app.function" ∷ "@cache" ∷
-      "@mo.cache()" ∷ [])
+    "@mo.cache()" ∷ [])
     ++ all_refused ("pass a" ∷ "break 1" ∷ [])
+
 -- ---- a line is as deep as its deepest expression
 -- `x[1] = ` and what follows
 abbrev put_at : List ℕ → List ℕ
