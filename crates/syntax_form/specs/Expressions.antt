@@ -7,7 +7,7 @@ use Rattle.syntax_form.specs.Levelled.{Levelled}
 use Rattle.syntax_form.specs.Levels.{level}
 use Rattle.syntax_form.specs.Printing.{tokens}
 
--- these tokens are this expression, at most this deep
+-- These tokens are this expression, at most this deep. It is no tuple without brackets.
 pub record IsExpression (limit : ℕ) (ts : List Token) (t : Tree) : Type 0 where
   pub stands : 1 ≤ level t
   pub levelled : Levelled t

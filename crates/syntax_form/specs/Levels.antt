@@ -17,7 +17,7 @@ prefix_level form.Not = 4
 prefix_level form.Minus = 8
 prefix_level form.Plus = 8
 
--- the level of the outermost form, from the loosest, 1, to the tightest, 11; 0 for a tuple without brackets, which is no operand
+-- the level of the outermost form, from the loosest, 1, to the tightest, 11; 0 for a tuple without brackets
 abbrev pub level : Tree → ℕ
 level (conditional value test other) = 1
 level (binary op left right) = operator_level op

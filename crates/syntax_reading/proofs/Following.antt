@@ -8,7 +8,8 @@ use Rattle.py_tree.specs.Expressions.{Pieces, no_piece, characters, field, Opera
 use Rattle.syntax_form.specs.Levels.{operator_level, prefix_level, level}
 use Rattle.syntax_reading.specs.Words.{literal_of, is_none_spelled, is_free, Fixed, code, same, Word, name, literal, f_text, fixed}
 use Rattle.syntax_reading.specs.Readers.{Read, Reader, choose, with_rest, on_table, is_word, on, guarded, Closing, by, at_end, on_closing}
-use Rattle.syntax_reading.specs.Tables.{Level, E1, E2, E3, E4, E6, E7, E8, least, operator_at, prefix_at, comparison_of, Tail, tail_of, first_comparison, first_if, first_keyword, then_assign}
+use Rattle.syntax_reading.specs.Tables.{Level, E1, E2, E3, E4, E6, E7, E8, least, operator_at, prefix_at, comparison_of, Tail, tail_of}
+use Rattle.syntax_reading.specs.Parts.{first_comparison, first_if, first_keyword, then_assign}
 use Rattle.syntax_reading.proofs.Binding.{binding, binds, opening, opens}
 use Rattle.syntax_reading.proofs.Shaped.{Shaped}
 use Rattle.syntax_reading.proofs.Spelling.{closes, closed, spell_more, spell_all, spell_name, operator_word, prefix_word, comparison_then, is_then, spell, spell_list, spell_later, spell_links, spell_arguments, spell_later_arguments, spell_pairs, spell_later_pairs, spell_tests, spell_bound}

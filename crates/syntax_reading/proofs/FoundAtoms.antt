@@ -14,7 +14,8 @@ use Rattle.syntax_form.specs.SpelledTokens.{token_list}
 use Rattle.syntax_reading.specs.Words.{literal_of, is_none_spelled, is_free, may_be_literal, Fixed, Word, name, literal, f_text, fixed, other, word_of, words, none_literal, is_none_literal}
 use Rattle.syntax_reading.specs.Readers.{Read, Reader, ◌>>=◌, on, by}
 use Rattle.syntax_reading.specs.Items.{items, items_on}
-use Rattle.syntax_reading.specs.Tables.{Level, E1, Bracket, Round, Square, Brace, bracket_of, pairs_of}
+use Rattle.syntax_reading.specs.Tables.{Level, E1, Bracket, Round, Square, Brace, bracket_of}
+use Rattle.syntax_reading.specs.Parts.{pairs_of}
 use Rattle.syntax_reading.specs.Reading.{nothing_left, with_field, alone, key_item, clause, round, square, brace, bracketed, parts, with_parts, atom}
 use Rattle.syntax_reading.proofs.Shaped.{PiecesShaped}
 use Rattle.syntax_reading.proofs.Spelling.{spell_names, spell, spell_tests}

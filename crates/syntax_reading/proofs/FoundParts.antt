@@ -9,7 +9,8 @@ use Rattle.syntax_form.specs.Levels.{operator_level, prefix_level}
 use Rattle.syntax_reading.specs.Words.{literal_of, is_none_spelled, is_free, may_be_literal, Fixed, Word, name, literal, f_text, fixed, other, word_of, words, none_literal, is_none_literal}
 use Rattle.syntax_reading.specs.Readers.{Reader, ◌>>=◌, on, guarded, by, is_some}
 use Rattle.syntax_reading.specs.Items.{items, each}
-use Rattle.syntax_reading.specs.Tables.{Level, E1, E2, E3, E4, E6, E7, E8, least, operator_at, deeper, prefix_at, comparison_of, first_comparison, first_name, first_if, then_assign, first_keyword, some_names, targets, Argument, plain, named, tests_of}
+use Rattle.syntax_reading.specs.Tables.{Level, E1, E2, E3, E4, E6, E7, E8, least, operator_at, deeper, prefix_at, comparison_of}
+use Rattle.syntax_reading.specs.Parts.{first_comparison, first_name, first_if, then_assign, first_keyword, some_names, targets, Argument, plain, named, tests_of}
 use Rattle.syntax_reading.specs.Reading.{argument, key_item, clause}
 use Rattle.syntax_reading.proofs.Shaped.{IsFree, AreFreeTargets, AllShaped}
 use Rattle.syntax_reading.proofs.Spelling.{spell_all, spell_name, spell_names, operator_word, prefix_word, comparison_then, spell, spell_tests}

@@ -18,7 +18,6 @@ AllGood Good (i ∷ xs) = Good i × AllGood Good xs
 abbrev pub IsItem : {I : Type 0} → Reader I → (I → List Word → List Word) → (I → Type 0) → Type 0
 IsItem {I} item spell_item Good = (ts : List Word) (y : I × List Word) → item ts ≡ Some y → (ts ≡ spell_item y.0 y.1) × Good y.0
 
--- the items that followed those found, and how they end
 -- two items, or one and a comma
 abbrev pub is_many : {I : Type 0} → List I → Bool → Bool
 is_many [] comma = false
@@ -29,6 +28,7 @@ is_many (i ∷ j ∷ xs) comma = true
 abbrev pub ClosesApart : Closing → Type 0
 ClosesApart c = (us rest : List Word) → Ends c rest → (fixed is.comma ∷ us) ≡ closes c rest → ⊥
 
+-- the items that followed those found, and how they end
 pub record More {I : Type 0} (spell_item : I → List Word → List Word) (Good : I → Type 0) (c : Closing) (found : List I) (ts : List Word) (a : List I × Bool) (rest : List Word) : Type 0 where
   pub new : List I
   pub all : a.0 ≡ found ++ new

@@ -21,7 +21,8 @@ use Rattle.syntax_reading.proofs.ShapedLines.{TextShaped}
 use Rattle.syntax_reading.proofs.Binding.{binding, binds}
 use Rattle.syntax_reading.specs.Readers.{Read, Reader, ◌>>=◌, on, guarded, Closing, by, at_end, on_closing, is_some}
 use Rattle.syntax_reading.specs.Items.{items}
-use Rattle.syntax_reading.specs.Tables.{E1, first_name, targets, Argument, arguments_of, named_last}
+use Rattle.syntax_reading.specs.Tables.{E1}
+use Rattle.syntax_reading.specs.Parts.{first_name, targets, Argument, arguments_of, named_last}
 use Rattle.syntax_reading.specs.Reading.{argument, read}
 use Rattle.syntax_reading.proofs.Spelling.{closes, spell_more, spell_all, spell_name, spell_names, spell, spell_list, spell_arguments}
 use Rattle.syntax_reading.proofs.Choices.{bind_ok, guarded_ok, lt_of, on_ok, on_only_ok, on_table_ok, on_closing_ok, Ends}

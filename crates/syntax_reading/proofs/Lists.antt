@@ -8,7 +8,7 @@ use Rattle.syntax_form.specs.Levels.{level}
 use Rattle.syntax_form.specs.Shapes.{CommaBehind, CommaBehindPairs, CommaBehindArguments, AreNamed, NamedLast}
 use Rattle.syntax_reading.specs.Words.{is_free, Fixed, Word, name, fixed}
 use Rattle.syntax_reading.specs.Readers.{Closing, by, is_some}
-use Rattle.syntax_reading.specs.Tables.{Argument, plain, named, arguments_of, all_named, named_last, pairs_of, links_of, tests_of}
+use Rattle.syntax_reading.specs.Parts.{Argument, plain, named, arguments_of, all_named, named_last, pairs_of, links_of, tests_of}
 use Rattle.syntax_reading.proofs.Shaped.{IsFree, AreFree, AreFreeTargets, Shaped, AllShaped, LinksShaped, ArgumentsShaped, PairsShaped}
 use Rattle.syntax_reading.proofs.Spelling.{spell_more, spell_all, comparison_then, spell, spell_list, spell_later, spell_links, spell_arguments, spell_later_arguments, spell_pairs, spell_later_pairs, spell_tests}
 use Rattle.syntax_reading.proofs.ItemsFound.{AllGood}

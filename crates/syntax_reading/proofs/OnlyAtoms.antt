@@ -13,7 +13,8 @@ use Rattle.syntax_form.proofs.TokenLaws.{list_of_tokens}
 use Rattle.syntax_reading.specs.Words.{literal_of, is_none_spelled, is_free, may_be_literal, same, Fixed, Word, name, literal, f_text, fixed, other, word_of, words, none_literal, is_none_literal}
 use Rattle.syntax_reading.specs.Readers.{Read, Reader, ◌>>=◌, choose, on, guarded, Closing, by, is_some}
 use Rattle.syntax_reading.specs.Items.{items, items_on, each}
-use Rattle.syntax_reading.specs.Tables.{Level, E1, E2, least, first_name, first_if, first_keyword, some_names, targets, Argument, plain, named, pairs_of, tests_of}
+use Rattle.syntax_reading.specs.Tables.{Level, E1, E2, least}
+use Rattle.syntax_reading.specs.Parts.{first_name, first_if, first_keyword, some_names, targets, Argument, plain, named, pairs_of, tests_of}
 use Rattle.syntax_reading.specs.Reading.{with_field, alone, argument, key_item, clause, round, square, brace, parts, with_parts, atom}
 use Rattle.syntax_reading.proofs.Binding.{binding, binds, opens}
 use Rattle.syntax_reading.proofs.Shaped.{PiecesShaped, IsFree, AreFreeTargets, AllShaped}

@@ -10,7 +10,8 @@ use Rattle.syntax_form.specs.Shapes.{CommaBehindArguments, NamedLast}
 use Rattle.syntax_reading.specs.Words.{literal_of, is_none_spelled, is_free, may_be_literal, same, Fixed, Word, name, literal, f_text, fixed, other, word_of, words, none_literal, is_none_literal}
 use Rattle.syntax_reading.specs.Readers.{Read, Reader, ◌>>=◌, on, guarded, by}
 use Rattle.syntax_reading.specs.Items.{each}
-use Rattle.syntax_reading.specs.Tables.{Level, E1, E2, E3, E4, E6, E7, E8, least, operator_at, deeper, prefix_at, Tail, Call, Index, Attribute, tail_of, first_comparison, first_name, Argument, arguments_of, named_last, links_of}
+use Rattle.syntax_reading.specs.Tables.{Level, E1, E2, E3, E4, E6, E7, E8, least, operator_at, deeper, prefix_at, Tail, Call, Index, Attribute, tail_of}
+use Rattle.syntax_reading.specs.Parts.{first_comparison, first_name, Argument, arguments_of, named_last, links_of}
 use Rattle.syntax_reading.specs.Reading.{argument, slice_end, indexed, called, tailed, tails, postfix, powers, prefixes, turns, operations, is_tail, chained, compared, whole, level_8, level_7, level_6, level_5, level_4, level_3, level_2, at_level, read}
 use Rattle.syntax_reading.proofs.Binding.{binding, binds}
 use Rattle.syntax_reading.proofs.Shaped.{ArgumentsShaped, BoundShaped}

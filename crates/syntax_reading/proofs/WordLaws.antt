@@ -1,17 +1,18 @@
 -- Words and the tokens that they stand for.
-use Rattle.std.proofs.Common.{◌≡◌, ℕ, zero, suc, Bool, true, false, List, [], ◌∷◌, map, ◌++◌, refl, sym, ap, ◌∙◌, Some, arith}
+use Rattle.std.proofs.Common.{◌≡◌, ℕ, zero, suc, Bool, true, false, List, [], ◌∷◌, map, ◌++◌, refl, sym, ap, ◌∙◌, Option, Some, None, subst, arith}
 use Rattle.std.proofs.lemmas.Bool.Decides.{nat_tests}
 use Rattle.std.specs.Prelude.{if◌then◌else◌}
 use Rattle.std.specs.Str.{bytes_eq}
 use Rattle.std.proofs.lemmas.Slice.Eq.{bytes_eq-Decides}
 use Rattle.lexical_form.specs.Tokens as kind
 use Rattle.syntax_reading.specs.Words as is
-use Rattle.py_tree.specs.Names.{is_among}
+use Rattle.py_tree.specs.Names.{Name, is_among}
 use Rattle.py_tree.specs.declared.token.TokenKind.TheVariants as literal_kind
 use Rattle.lexical_form.specs.Tokens.{Token, token, Kind, spelling}
 use Rattle.syntax_form.specs.Literals.{constants}
 use Rattle.syntax_form.specs.Printing.{literal_token}
-use Rattle.syntax_reading.specs.Words.{is_free, literal_of, Fixed, find, fixed_or, keyword_words, mark_words, code, same, fixed_token, Word, name, literal, f_text, fixed, word_of, words}
+use Rattle.py_tree.specs.declared.token.Token as literals
+use Rattle.syntax_reading.specs.Words.{may_be_literal, is_free, literal_of, Fixed, find, fixed_or, keyword_words, mark_words, code, same, fixed_token, Word, name, literal, f_text, fixed, word_of, words}
 
 pub words_append : (ts us : List Token) → words (ts ++ us) ≡ words ts ++ words us
 words_append [] us = refl
@@ -194,3 +195,52 @@ tokens_of_words (t ∷ ts) = rw (token_of_word t) (ap (λ us. t ∷ us) (tokens_
 -- tokens with the same words are the same
 pub words_same : (ts us : List Token) → words ts ≡ words us → ts ≡ us
 words_same ts us e = sym (tokens_of_words ts) ∙ (ap (λ ws. map token_of ws) e ∙ tokens_of_words us)
+
+-- ---- what a word says of its token: the guards of the reader hold of it
+
+pub name_is_free : (t : Token) (x : Name) → word_of t ≡ name x → is_free x ≡ true
+unfolding word_of
+name_is_free (token kind.name s) x e = by_free (is_free s) refl (is_among s constants) e
+  where
+    by_found : (o : Option Fixed) → fixed_or (is.other (token kind.name s)) o ≡ name x → is_free x ≡ true
+    by_found None g = absurd (cc)
+    by_found (Some f) g = absurd (cc)
+
+    by_free : (b : Bool) → is_free s ≡ b → (k : Bool) →
+        (if b then name s else (if k then literal (literal_of literal_kind.Name s) else fixed_or (is.other (token kind.name s)) (find keyword_words s))) ≡ name x → is_free x ≡ true
+    by_free true h k g = let same_name : s ≡ x = cc (g) in ap is_free (sym same_name) ∙ h
+    by_free false h true g = absurd (cc)
+    by_free false h false g = by_found (find keyword_words s) g
+name_is_free (token kind.number s) x e = absurd (cc)
+name_is_free (token kind.text s) x e = absurd (cc)
+name_is_free (token (kind.f_text ps) s) x e = absurd (cc)
+name_is_free (token kind.mark s) x e = by_found (find mark_words s) e
+  where
+    by_found : (o : Option Fixed) → fixed_or (is.other (token kind.mark s)) o ≡ name x → is_free x ≡ true
+    by_found None g = absurd (cc)
+    by_found (Some f) g = absurd (cc)
+
+pub literal_may_be : (t : Token) (u : literals.Token) → word_of t ≡ literal u → may_be_literal u.kind u.spelling ≡ true
+unfolding word_of
+literal_may_be (token kind.name s) u e = by_free (is_free s) (is_among s constants) refl e
+  where
+    by_found : (o : Option Fixed) → fixed_or (is.other (token kind.name s)) o ≡ literal u → may_be_literal u.kind u.spelling ≡ true
+    by_found None g = absurd (cc)
+    by_found (Some f) g = absurd (cc)
+
+    by_free : (b k : Bool) → is_among s constants ≡ k →
+        (if b then name s else (if k then literal (literal_of literal_kind.Name s) else fixed_or (is.other (token kind.name s)) (find keyword_words s))) ≡ literal u →
+        may_be_literal u.kind u.spelling ≡ true
+    by_free true k h g = absurd (cc)
+    by_free false true h g = let same_literal : literal_of literal_kind.Name s ≡ u = cc (g) in subst (λ v. may_be_literal v.kind v.spelling ≡ true) same_literal h
+    by_free false false h g = by_found (find keyword_words s) g
+literal_may_be (token kind.number s) u e =
+    let same_literal : literal_of literal_kind.Number s ≡ u = cc (e) in subst (λ v. may_be_literal v.kind v.spelling ≡ true) same_literal refl
+literal_may_be (token kind.text s) u e =
+    let same_literal : literal_of literal_kind.Text s ≡ u = cc (e) in subst (λ v. may_be_literal v.kind v.spelling ≡ true) same_literal refl
+literal_may_be (token (kind.f_text ps) s) u e = absurd (cc)
+literal_may_be (token kind.mark s) u e = by_found (find mark_words s) e
+  where
+    by_found : (o : Option Fixed) → fixed_or (is.other (token kind.mark s)) o ≡ literal u → may_be_literal u.kind u.spelling ≡ true
+    by_found None g = absurd (cc)
+    by_found (Some f) g = absurd (cc)

@@ -2,6 +2,7 @@ pub mod Items
 pub mod LineForms
 pub mod LinePieces
 pub mod LineReading
+pub mod Parts
 pub mod Readers
 pub mod Reading
 pub mod Tables

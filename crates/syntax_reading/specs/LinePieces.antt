@@ -11,7 +11,8 @@ use Rattle.syntax_reading.specs.Words as is
 use Rattle.syntax_reading.specs.Words.{Fixed, Word, name, literal}
 use Rattle.syntax_reading.specs.Readers.{Read, Reader, ◌>>=◌, on_table, on, guarded, Closing, by, on_closing}
 use Rattle.syntax_reading.specs.Items.{items}
-use Rattle.syntax_reading.specs.Tables.{E1, first_name, targets, arguments_of, named_last}
+use Rattle.syntax_reading.specs.Tables.{E1}
+use Rattle.syntax_reading.specs.Parts.{first_name, targets, arguments_of, named_last}
 use Rattle.syntax_reading.specs.Reading.{argument, read}
 
 -- what a form is made of

@@ -13,7 +13,8 @@ use Rattle.syntax_reading.specs.Words as is
 use Rattle.syntax_reading.specs.Words.{Word, name, literal, f_text, fixed, other, words, is_free, may_be_literal}
 use Rattle.syntax_reading.specs.Readers.{Read, Reader, ◌>>=◌, choose, on_table, on, guarded, by}
 use Rattle.syntax_reading.specs.Items.{items, items_on, each}
-use Rattle.syntax_reading.specs.Tables.{Level, E1, E2, E3, E4, E6, E7, E8, operator_at, deeper, prefix_at, Tail, Call, Index, Attribute, tail_of, Bracket, Round, Square, Brace, bracket_of, first_comparison, first_name, first_if, first_keyword, on_none, targets, Argument, plain, named, arguments_of, named_last, pairs_of, links_of, tests_of}
+use Rattle.syntax_reading.specs.Tables.{Level, E1, E2, E3, E4, E6, E7, E8, operator_at, deeper, prefix_at, Tail, Call, Index, Attribute, tail_of, Bracket, Round, Square, Brace, bracket_of}
+use Rattle.syntax_reading.specs.Parts.{first_comparison, first_name, first_if, first_keyword, on_none, targets, Argument, plain, named, arguments_of, named_last, pairs_of, links_of, tests_of}
 
 -- a tree that takes all the words
 abbrev pub nothing_left : Tree → List Word → Option Tree
