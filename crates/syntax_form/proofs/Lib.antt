@@ -2,3 +2,6 @@
 pub mod TokenLaws
 -- For `lines_of_tokens`, and for worked examples of readers.
 pub mod LineTokens
+-- For `printed_tokens`.
+pub mod PrintedTokens
+pub mod PrintedLines

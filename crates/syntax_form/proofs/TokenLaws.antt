@@ -30,7 +30,7 @@ tokens_joined (u ∷ us) vs h k = (h.0, tokens_joined us vs h.1 k)
 
 -- ---- what may stand before something may stand alone
 
-never : (b : Bool) → not (b && false) ≡ true
+pub never : (b : Bool) → not (b && false) ≡ true
 never true = refl
 never false = refl
 

@@ -3,4 +3,4 @@
 
 mod laws;
 
-pub use laws::lines_of_tokens;
+pub use laws::{lines_of_tokens, printed_tokens};

@@ -6,6 +6,7 @@ use Rattle.syntax_form.specs.LinePrinting.{head_tokens}
 use Rattle.syntax_form.specs.Depth.{depth_limit}
 use Rattle.syntax_form.specs.SpelledTokens.{AreTokens}
 use Rattle.syntax_form.specs.Lines.{HeadLevelled, head_depth, place, SpellsLine, IsLine}
+use Rattle.syntax_form.proofs.PrintedLines.{line_tokens}
 use Rattle.syntax_reading.proofs.ShapedLines.{HeadShaped}
 use Rattle.syntax_reading.specs.Words.{Word, words}
 use Rattle.syntax_reading.proofs.WordLaws.{before_nil, words_same}
@@ -135,8 +136,9 @@ one_line ts h k a b =
     let down = b.latest h a.spells in
     one_of_form h k a.spells.levelled b.spells.levelled (omega arith) (sym a.spells.spelled ∙ b.spells.spelled)
 
-pub line_only : (ts : List Token) (h : Head) → AreTokens ts → IsLine ts h → read_line ts ≡ Some h
-line_only ts h spelled s =
+pub line_only : (ts : List Token) (h : Head) → IsLine ts h → read_line ts ≡ Some h
+line_only ts h s =
+    let spelled : AreTokens ts = subst AreTokens (sym s.spells.spelled) (line_tokens h s.spells.levelled) in
     let one = one_only ts h (spells_shaped ts h s.spells) in
     let some = some_first forms (form_of h) (words ts) h (among (form_of h)) one in
     some.1 ∙ ap Some (one_line ts some.0 h (line_found ts some.0 spelled some.1) s)

@@ -56,10 +56,10 @@ module _ {A : Type 0} (reader : List Token → Option A) where
   Computed rows = all_seen rows ≡ all_wanted rows
 
 module _ {A : Type 0} (Is : List Token → A → Type 0) (reader : List Token → Option A)
-    (found : (ts : List Token) (x : A) → AreTokens ts → reader ts ≡ Some x → Is ts x) (only : (ts : List Token) (x : A) → AreTokens ts → Is ts x → reader ts ≡ Some x) where
+    (found : (ts : List Token) (x : A) → AreTokens ts → reader ts ≡ Some x → Is ts x) (only : (ts : List Token) (x : A) → Is ts x → reader ts ≡ Some x) where
   says : (ts : List Token) (o : Option A) → AreTokens ts → reader ts ≡ o → Says Is ts o
   says ts (Some x) spelled e = found ts x spelled e
-  says ts None spelled e = λ x h. let none : None ≡ Some x = sym e ∙ only ts x spelled h in cc
+  says ts None spelled e = λ x h. let none : None ≡ Some x = sym e ∙ only ts x h in cc
 
   row_says : (row : Row A) → seen reader row.0 ≡ wanted reader row → (ts : List Token) × IsOneLine row.0 ts × Says Is ts row.1
   row_says row e =
@@ -76,7 +76,7 @@ module _ {A : Type 0} (Is : List Token → A → Type 0) (reader : List Token �
 
 pub are_expressions : (rows : List (Row Tree)) → Computed (read_expression depth_limit) rows → AreExpressions rows
 are_expressions rows e =
-    are_rows (IsExpression depth_limit) (read_expression depth_limit) (expression_found depth_limit) (λ ts t spelled h. expression_only depth_limit ts t h) rows e
+    are_rows (IsExpression depth_limit) (read_expression depth_limit) (expression_found depth_limit) (expression_only depth_limit) rows e
 
 pub are_lines : (rows : List (Row Head)) → Computed read_line rows → AreLines rows
 are_lines rows e = are_rows IsLine read_line line_found line_only rows e

@@ -32,5 +32,5 @@ pub fn lines_are_spelled_once()
 /// Of tokens that are spelled as tokens what is read is the line that they are; and where they are one, it is read.
 pub fn lines_are_read()
     ensures found { (ts : List Token) (h : Head) → AreTokens ts → read_line ts ≡ Some h → IsLine ts h }
-    ensures only { (ts : List Token) (h : Head) → AreTokens ts → IsLine ts h → read_line ts ≡ Some h }
+    ensures only { (ts : List Token) (h : Head) → IsLine ts h → read_line ts ≡ Some h }
 {}
