@@ -10,9 +10,9 @@ use Rattle.syntax_form.specs.Levels.{level}
 use Rattle.syntax_form.specs.Grouping.{Grouped, ArgumentsGrouped}
 use Rattle.syntax_form.specs.Shapes.{AreEach, AreTargets, CommaBehindArguments, CommaBehindNames, NamedLast}
 
-abbrev pub IsText : TokenKind → Type 0
-IsText kind.Text = ⊤
-IsText k = ⊥
+abbrev pub IsTextKind : TokenKind → Type 0
+IsTextKind kind.Text = ⊤
+IsTextKind k = ⊥
 
 module _ (AsName : Name → Type 0) (AsLiteral : TokenKind → List ℕ → Type 0) (AsFText : List ℕ → token.Pieces → Type 0) where
   -- at this level or a tighter one
@@ -36,7 +36,7 @@ module _ (AsName : Name → Type 0) (AsLiteral : TokenKind → List ℕ → Type
   HeadGrouped (for_line targets from) = AreTargets AsName targets × GroupedAt 0 from
   HeadGrouped (def_line x parameters comma) = AsName x × AreEach AsName parameters × CommaBehindNames parameters comma
   HeadGrouped (return_value t) = GroupedAt 0 t
-  HeadGrouped (with_cache named t) = IsText t.kind × AsLiteral t.kind t.spelling
+  HeadGrouped (with_cache named t) = IsTextKind t.kind × AsLiteral t.kind t.spelling
   HeadGrouped (cell_decorator_with args comma) = ArgumentListGrouped args comma
   HeadGrouped (app_line args comma) = ArgumentListGrouped args comma
   HeadGrouped else_line = ⊤

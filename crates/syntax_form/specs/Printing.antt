@@ -14,7 +14,7 @@ use Rattle.lexical_form.specs.Tokens.{Token, tokens_of}
 abbrev pub name_token : Name → Token
 name_token x = token.token token.name x
 
--- a keyword, and a mark
+-- a keyword or a name by its spelling, and a mark
 abbrev pub word : String → Token
 word x = name_token (codes x)
 

@@ -10,9 +10,9 @@ AreTokens [] = ⊤
 AreTokens (t ∷ ts) = Stands t [] × AreTokens ts
 
 -- those of each line
-abbrev pub OfTokens : List Line → Type 0
-OfTokens [] = ⊤
-OfTokens (l ∷ ls) = AreTokens l.tokens × OfTokens ls
+abbrev pub HoldTokens : List Line → Type 0
+HoldTokens [] = ⊤
+HoldTokens (l ∷ ls) = AreTokens l.tokens × HoldTokens ls
 
 -- the tokens of a field
 abbrev pub token_list : Tokens → List Token

@@ -7,11 +7,11 @@ ghost use Rattle.syntax_form.specs.Levelled.{Levelled};
 ghost use Rattle.syntax_form.specs.LinePrinting.{head_tokens};
 ghost use Rattle.syntax_form.specs.Lines.{HeadLevelled};
 ghost use Rattle.syntax_form.specs.Printing.{tokens};
-ghost use Rattle.syntax_form.specs.SpelledTokens.{AreTokens, OfTokens};
+ghost use Rattle.syntax_form.specs.SpelledTokens.{AreTokens, HoldTokens};
 
 /// The tokens of logical lines are spelled as tokens, as those must be that are read as expressions.
 pub fn lines_of_tokens()
-    ensures { (bytes : List ℕ) (lines : List Line) → IsAnswer bytes (accepted lines) → OfTokens lines }
+    ensures { (bytes : List ℕ) (lines : List Line) → IsAnswer bytes (accepted lines) → HoldTokens lines }
 {}
 
 /// What spells a levelled expression, or a levelled line, is spelled as tokens.

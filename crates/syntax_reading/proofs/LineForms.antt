@@ -15,7 +15,7 @@ use Rattle.syntax_reading.proofs.Spelling.{closes}
 use Rattle.syntax_reading.proofs.WordLaws.{before, before_append, word_of_fixed}
 use Rattle.syntax_reading.proofs.SpellingLaws.{word_of_name, comma_is, word_of_literal, names_are, targets_are, spell_is, list_is, arguments_are}
 use Rattle.syntax_reading.specs.LineForms.{Form, Value, Assign, AugmentName, PutItem, AugmentItem, Append, Extend, IfLine, ElifLine, ElseLine, WhileLine, ForLine, DefLine, Return, ReturnValue, Pass, Break, Continue, ImportMarimo, ImportMo, WithCache, WithNamedCache, CacheDecorator, CellDecorator, CellDecoratorWith, App, template, make}
-use Rattle.syntax_reading.proofs.LinePieces.{augment_word, spell_tee, spell_pieces, tee_colon, GoodPieces, Fine}
+use Rattle.syntax_reading.proofs.LinePieces.{augment_word, spell_values, spell_pieces, values_colon, GoodPieces, Fine}
 
 abbrev pub form_of : Head → Form
 form_of (value t) = Value
@@ -103,10 +103,10 @@ make_slots (app_line args b) = refl
 
 -- ---- the words of a line
 
-tee_is : (c : Closing) (t : Tree) (r : List Word) → Shaped t → spell_tee c t r ≡ before (tokens t) (closes c r)
-tee_is c (bare ts b) r l =
+values_are : (c : Closing) (t : Tree) (r : List Word) → Shaped t → spell_values c t r ≡ before (tokens t) (closes c r)
+values_are c (bare ts b) r l =
     list_is 1 ts b c l.0 r ∙ (ap (before (list_tokens ts)) (comma_is b c r) ∙ sym (before_append (list_tokens ts) (if_comma b) (closes c r)))
-tee_is c t r l = spell_is t l (closes c r)
+values_are c t r l = spell_is t l (closes c r)
 
 augment_is : (op : Augment) → word_of (augment_token op) ≡ fixed (augment_word op)
 augment_is AddTo = word_of_fixed is.add_to
@@ -116,8 +116,8 @@ augment_is FloorBy = word_of_fixed is.floor_by
 augment_is RemainderBy = word_of_fixed is.remainder_by
 
 pub head_words : (h : Head) → HeadShaped h → spell_pieces (template (form_of h)) (slots h) ≡ before (head_tokens h) []
-head_words (value t) l = tee_is at_end t [] l.1
-head_words (assign xs t) l = simp (before_append, word_of_fixed is.assign, targets_are xs is.assign l.0, tee_is at_end t [] l.1.1)
+head_words (value t) l = values_are at_end t [] l.1
+head_words (assign xs t) l = simp (before_append, word_of_fixed is.assign, targets_are xs is.assign l.0, values_are at_end t [] l.1.1)
 head_words (augment x op t) l = simp (word_of_name x l.0, augment_is op, spell_is t l.1.1)
 head_words (put_item x k t) l =
     simp (before_append, word_of_name x l.0, word_of_fixed is.square_open, word_of_fixed is.square_close, word_of_fixed is.assign, spell_is k l.1.1, spell_is t l.2.1)
@@ -132,7 +132,7 @@ head_words (elif_line t) l = simp (before_append, word_of_fixed is.elif_, word_o
 head_words else_line l = simp (word_of_fixed is.else_, word_of_fixed is.colon)
 head_words (while_line t) l = simp (before_append, word_of_fixed is.while_, word_of_fixed is.colon, spell_is t l.1)
 head_words (for_line xs t) l =
-    simp (before_append, word_of_fixed is.for_, word_of_fixed is.in_, word_of_fixed is.colon, targets_are xs is.in_ l.0, tee_is (by is.colon) t [] l.1.1)
+    simp (before_append, word_of_fixed is.for_, word_of_fixed is.in_, word_of_fixed is.colon, targets_are xs is.in_ l.0, values_are (by is.colon) t [] l.1.1)
 head_words (def_line x xs b) l =
     simp (
       before_append,
@@ -145,7 +145,7 @@ head_words (def_line x xs b) l =
       comma_is b (by is.round_close),
     )
 head_words return_line l = simp (word_of_fixed is.return_)
-head_words (return_value t) l = simp (word_of_fixed is.return_, tee_is at_end t [] l.1)
+head_words (return_value t) l = simp (word_of_fixed is.return_, values_are at_end t [] l.1)
 head_words pass_line l = simp (word_of_fixed is.pass_)
 head_words break_line l = simp (word_of_fixed is.break_)
 head_words continue_line l = simp (word_of_fixed is.continue_)
@@ -303,7 +303,7 @@ fine below IfLine = (tt, (refl, (tt, tt)))
 fine below ElifLine = (tt, (refl, (tt, tt)))
 fine below ElseLine = (tt, (tt, tt))
 fine below WhileLine = (tt, (refl, (tt, tt)))
-fine below ForLine = (tt, ((refl, refl), (tee_colon, tt)))
+fine below ForLine = (tt, ((refl, refl), (values_colon, tt)))
 fine below DefLine = (tt, (tt, (tt, (tt, (tt, tt)))))
 fine below Return = (tt, tt)
 fine below ReturnValue = (tt, tt)

@@ -12,7 +12,7 @@ use Rattle.syntax_reading.specs.Words.{Word, words}
 use Rattle.syntax_reading.proofs.WordLaws.{before_nil, words_same}
 use Rattle.syntax_reading.specs.LinePieces.{Slot, pieces}
 use Rattle.syntax_reading.specs.LineForms.{Form, template, make}
-use Rattle.syntax_reading.specs.LineReading.{made, forms, one_form, or_else, first_form, read_line}
+use Rattle.syntax_reading.specs.LineReading.{made, forms, one_form, or_else, first_form, part_limit, read_line}
 use Rattle.syntax_reading.proofs.LinePieces.{spell_pieces, GoodPieces, pieces_found, pieces_only}
 use Rattle.syntax_reading.proofs.LineForms.{form_of, slots, make_slots, head_words, head_good, head_shaped, made_is, fine}
 use Rattle.syntax_reading.proofs.LineOrder.{rank, place_is, same_form, Among, Falling, at_most, among_at_most, falling_rest, falling, among}
@@ -32,19 +32,19 @@ record Formed (f : Form) (ts : List Token) (h : Head) : Type 0 where
   spells : SpellsShaped ts h
   form_is : form_of h ≡ f
 
-one_found : (f : Form) (ts : List Token) (h : Head) → one_form 63 f (words ts) ≡ Some h → Formed f ts h
-one_found f ts h e = by_pieces (pieces 63 (template f) (words ts)) refl e
+one_found : (f : Form) (ts : List Token) (h : Head) → one_form part_limit f (words ts) ≡ Some h → Formed f ts h
+one_found f ts h e = by_pieces (pieces part_limit (template f) (words ts)) refl e
   where
-    of_line : (ss : List Slot) → pieces 63 (template f) (words ts) ≡ Some ss → make f ss ≡ Some h → Formed f ts h
+    of_line : (ss : List Slot) → pieces part_limit (template f) (words ts) ≡ Some ss → make f ss ≡ Some h → Formed f ts h
     of_line ss g k =
-        let p = pieces_found 63 (template f) (words ts) ss (fine 63 f) g in
-        let m = made_is 63 f ss h p.1 k in
-        let good : GoodPieces 63 (template (form_of h)) (slots h) = subst (λ xs. GoodPieces 63 (template (form_of h)) xs) (sym m.1) (subst (λ i. GoodPieces 63 (template i) ss) (sym m.0) p.1) in
-        let l = head_shaped 63 h good in
+        let p = pieces_found part_limit (template f) (words ts) ss (fine part_limit f) g in
+        let m = made_is part_limit f ss h p.1 k in
+        let good : GoodPieces part_limit (template (form_of h)) (slots h) = subst (λ xs. GoodPieces part_limit (template (form_of h)) xs) (sym m.1) (subst (λ i. GoodPieces part_limit (template i) ss) (sym m.0) p.1) in
+        let l = head_shaped part_limit h good in
         let w : words ts ≡ words (head_tokens h) = p.0 ∙ (ap (λ i. spell_pieces (template i) ss) (sym m.0) ∙ (ap (spell_pieces (template (form_of h))) (sym m.1) ∙ sym (words_of_line h l.0))) in
         record { spells = record { shaped = l.0; shallow = l.1; spelled = words_same ts (head_tokens h) w }; form_is = m.0 }
 
-    by_pieces : (r : Option (List Slot)) → pieces 63 (template f) (words ts) ≡ r → made f r ≡ Some h → Formed f ts h
+    by_pieces : (r : Option (List Slot)) → pieces part_limit (template f) (words ts) ≡ r → made f r ≡ Some h → Formed f ts h
     by_pieces None g k = absurd (cc)
     by_pieces (Some ss) g k = of_line ss g k
 
@@ -55,8 +55,8 @@ one_at below ts h l d e =
     ap (λ ws. made f (pieces below (template f) ws)) w ∙
     (ap (made f) (pieces_only below (template f) (slots h) (fine below f) (head_good below h l d)) ∙ make_slots h)
 
-one_only : (ts : List Token) (h : Head) → SpellsShaped ts h → one_form 63 (form_of h) (words ts) ≡ Some h
-one_only ts h s = one_at 63 ts h s.shaped s.shallow s.spelled
+one_only : (ts : List Token) (h : Head) → SpellsShaped ts h → one_form part_limit (form_of h) (words ts) ≡ Some h
+one_only ts h s = one_at part_limit ts h s.shaped s.shallow s.spelled
 
 one_shaped : (h k : Head) → HeadShaped h → HeadShaped k → form_of h ≡ form_of k → head_tokens h ≡ head_tokens k → h ≡ k
 one_shaped h k l m f e =
@@ -68,15 +68,15 @@ one_shaped h k l m f e =
 
 -- the first form that gives a line is the latest that does
 first_is_latest : (fs : List Form) (ts : List Token) (h : Head) → Falling fs → first_form fs (words ts) ≡ Some h →
-    Formed (form_of h) ts h × ((f : Form) (other : Head) → Among f fs → one_form 63 f (words ts) ≡ Some other → rank f ≤ rank (form_of h))
+    Formed (form_of h) ts h × ((f : Form) (other : Head) → Among f fs → one_form part_limit f (words ts) ≡ Some other → rank f ≤ rank (form_of h))
 unfolding first_form
 first_is_latest [] ts h s e = absurd (cc)
-first_is_latest (g ∷ gs) ts h s e = by_one (one_form 63 g (words ts)) refl e (first_is_latest gs ts h (falling_rest g gs s))
+first_is_latest (g ∷ gs) ts h s e = by_one (one_form part_limit g (words ts)) refl e (first_is_latest gs ts h (falling_rest g gs s))
   where
     Latest : List Form → Type 0
-    Latest fs = Formed (form_of h) ts h × ((f : Form) (other : Head) → Among f fs → one_form 63 f (words ts) ≡ Some other → rank f ≤ rank (form_of h))
+    Latest fs = Formed (form_of h) ts h × ((f : Form) (other : Head) → Among f fs → one_form part_limit f (words ts) ≡ Some other → rank f ≤ rank (form_of h))
 
-    by_one : (r : Option Head) → one_form 63 g (words ts) ≡ r → or_else r (first_form gs (words ts)) ≡ Some h → (first_form gs (words ts) ≡ Some h → Latest gs) → Latest (g ∷ gs)
+    by_one : (r : Option Head) → one_form part_limit g (words ts) ≡ r → or_else r (first_form gs (words ts)) ≡ Some h → (first_form gs (words ts) ≡ Some h → Latest gs) → Latest (g ∷ gs)
     by_one (Some k) i j later =
         let same_line : k ≡ h = cc (j) in
         let f = one_found g ts h (i ∙ ap Some same_line) in
@@ -85,18 +85,18 @@ first_is_latest (g ∷ gs) ts h s e = by_one (one_form 63 g (words ts)) refl e (
         let l = later j in (
           l.0,
           λ o other a q. elim a [
-            | inl same_one ↦ (let one : one_form 63 g (words ts) ≡ Some other = subst (λ n. one_form 63 n (words ts) ≡ Some other) same_one q in absurd (cc (one, i)))
+            | inl same_one ↦ (let one : one_form part_limit g (words ts) ≡ Some other = subst (λ n. one_form part_limit n (words ts) ≡ Some other) same_one q in absurd (cc (one, i)))
             | inr b ↦ l.1 o other b q
           ],
         )
 
-some_first : (fs : List Form) (f : Form) (ws : List Word) (h : Head) → Among f fs → one_form 63 f ws ≡ Some h → (k : Head) × (first_form fs ws ≡ Some k)
+some_first : (fs : List Form) (f : Form) (ws : List Word) (h : Head) → Among f fs → one_form part_limit f ws ≡ Some h → (k : Head) × (first_form fs ws ≡ Some k)
 unfolding first_form
 some_first [] f ws h a e = absurd a
-some_first (g ∷ gs) f ws h (inl s) e = let one : one_form 63 g ws ≡ Some h = subst (λ n. one_form 63 n ws ≡ Some h) s e in (h, rw one refl)
-some_first (g ∷ gs) f ws h (inr a) e = by_one (one_form 63 g ws) refl (some_first gs f ws h a e)
+some_first (g ∷ gs) f ws h (inl s) e = let one : one_form part_limit g ws ≡ Some h = subst (λ n. one_form part_limit n ws ≡ Some h) s e in (h, rw one refl)
+some_first (g ∷ gs) f ws h (inr a) e = by_one (one_form part_limit g ws) refl (some_first gs f ws h a e)
   where
-    by_one : (r : Option Head) → one_form 63 g ws ≡ r → ((k : Head) × (first_form gs ws ≡ Some k)) → (k : Head) × (or_else (one_form 63 g ws) (first_form gs ws) ≡ Some k)
+    by_one : (r : Option Head) → one_form part_limit g ws ≡ r → ((k : Head) × (first_form gs ws ≡ Some k)) → (k : Head) × (or_else (one_form part_limit g ws) (first_form gs ws) ≡ Some k)
     by_one (Some k) i later = (k, rw i refl)
     by_one None i later = (later.0, rw i later.1)
 

@@ -15,7 +15,7 @@ use Rattle.syntax_form.specs.Levels.{operator_level, prefix_level, level}
 use Rattle.syntax_form.specs.Depth.{depth, argument_depth}
 use Rattle.syntax_reading.proofs.Shaped.{IsFree, AreFree, AreFreeTargets, ArgumentsShaped}
 use Rattle.syntax_form.specs.Shapes.{IsBare, CommaBehindArguments, NamedLast, CommaBehindNames}
-use Rattle.syntax_form.specs.LineGrouping.{IsText}
+use Rattle.syntax_form.specs.LineGrouping.{IsTextKind}
 use Rattle.syntax_reading.proofs.Shaped.{MayBeLiteral}
 use Rattle.syntax_reading.proofs.ShapedLines.{TextShaped}
 use Rattle.syntax_reading.proofs.Binding.{binding, binds}
@@ -34,7 +34,7 @@ use Rattle.syntax_reading.proofs.Following.{guarded_by, CloseFine, on_closing_at
 use Rattle.syntax_reading.proofs.ItemsOnly.{items_closed, items_next, all_only}
 use Rattle.syntax_reading.proofs.OnlyAtoms.{AnyRest, Loose, name_laws, targets_only, tree_laws, argument_laws}
 use Rattle.syntax_reading.proofs.OnlyLevels.{read_only}
-use Rattle.syntax_reading.specs.LinePieces.{Piece, word, exact, any_name, tree, tee, names_to, parameters, arguments, text, augment_mark, Slot, nothing, a_name, a_tree, some_names, some_arguments, a_text, an_augment, augment_of, first_exact, is_text_kind, first_text, tee_of, piece, with_slot, on_slot, pieces}
+use Rattle.syntax_reading.specs.LinePieces.{Piece, word, exact, any_name, tree, values_to, names_to, parameters, arguments, text, augment_mark, Slot, nothing, a_name, a_tree, some_names, some_arguments, a_text, an_augment, augment_of, first_exact, is_text_kind, first_text, closed_values, piece, with_slot, on_slot, pieces}
 
 -- ---- how pieces are spelled
 
@@ -45,16 +45,16 @@ augment_word MultiplyBy = is.multiply_by
 augment_word FloorBy = is.floor_by
 augment_word RemainderBy = is.remainder_by
 
-abbrev pub spell_tee : Closing → Tree → List Word → List Word
-spell_tee c (bare ts b) rest = spell_list ts b c rest
-spell_tee c t rest = spell t (closes c rest)
+abbrev pub spell_values : Closing → Tree → List Word → List Word
+spell_values c (bare ts b) rest = spell_list ts b c rest
+spell_values c t rest = spell t (closes c rest)
 
 abbrev pub spell_piece : Piece → Slot → List Word → List Word
 spell_piece (word f) s rest = fixed f ∷ rest
 spell_piece (exact x) s rest = name x ∷ rest
 spell_piece any_name (a_name x) rest = name x ∷ rest
 spell_piece tree (a_tree t) rest = spell t rest
-spell_piece (tee c) (a_tree t) rest = spell_tee c t rest
+spell_piece (values_to c) (a_tree t) rest = spell_values c t rest
 spell_piece (names_to f) (some_names xs b) rest = spell_names xs f rest
 spell_piece parameters (some_names xs b) rest = spell_all spell_name xs b (by is.round_close) rest
 spell_piece arguments (some_arguments args b) rest = spell_arguments args b rest
@@ -68,23 +68,23 @@ spell_pieces (p ∷ ps) [] = []
 spell_pieces (p ∷ ps) (s ∷ ss) = spell_piece p s (spell_pieces ps ss)
 
 -- what closes a tuple without brackets
-pub record CloseTee (c : Closing) : Type 0 where
+pub record ClosesValues (c : Closing) : Type 0 where
   pub apart : ClosesApart c
   pub fine : CloseFine c
   pub loose : (rest : List Word) → Ends c rest → binds (closes c rest) < 1
 
-pub tee_end : CloseTee at_end
-tee_end = record {
+pub values_end : ClosesValues at_end
+values_end = record {
   apart = λ us rest e h. let none_left : fixed is.comma ∷ us ≡ [] = h ∙ e in absurd (cc (none_left));
   fine = tt;
   loose = λ rest e. rw e (omega arith);
 }
 
-pub tee_colon : CloseTee (by is.colon)
-tee_colon = record { apart = λ us rest e h. cc (h); fine = (refl, refl); loose = λ rest e. omega arith }
+pub values_colon : ClosesValues (by is.colon)
+values_colon = record { apart = λ us rest e h. cc (h); fine = (refl, refl); loose = λ rest e. omega arith }
 
 abbrev pub FinePiece : Piece → Type 0
-FinePiece (tee c) = CloseTee c
+FinePiece (values_to c) = ClosesValues c
 FinePiece (names_to f) = CloseFine (by f)
 FinePiece p = Unit {0}
 
@@ -121,7 +121,7 @@ module _ (below : ℕ) where
   Good (exact x) nothing = Unit {0}
   Good any_name (a_name x) = IsFree x
   Good tree (a_tree t) = Fits 1 room t
-  Good (tee c) (a_tree t) = Fits 0 room t
+  Good (values_to c) (a_tree t) = Fits 0 room t
   Good (names_to f) (some_names xs false) = AreFreeTargets xs
   Good parameters (some_names xs b) = AreFree xs × CommaBehindNames xs b
   Good arguments (some_arguments args b) = ArgumentsShaped args × NamedLast args × CommaBehindArguments args b × (argument_depth args ≤ room)
@@ -136,18 +136,18 @@ module _ (below : ℕ) where
 
   -- what stands behind a piece that was read
   abbrev pub EndsPiece : Piece → List Word → Type 0
-  EndsPiece (tee c) rest = Ends c rest
+  EndsPiece (values_to c) rest = Ends c rest
   EndsPiece p rest = Unit {0}
 
   -- what may stand behind a piece
   abbrev pub May : Piece → List Word → Type 0
   May tree rest = binds rest < 1
-  May (tee c) rest = Ends c rest
+  May (values_to c) rest = Ends c rest
   May p rest = Unit {0}
 
   -- ---- tuples without brackets
 
-  spell_one : (c : Closing) (t : Tree) (rest : List Word) → 1 ≤ level t → spell t (closes c rest) ≡ spell_tee c t rest
+  spell_one : (c : Closing) (t : Tree) (rest : List Word) → 1 ≤ level t → spell t (closes c rest) ≡ spell_values c t rest
   spell_one c (bare ts b) rest h = absurd (omega arith)
   spell_one c t rest h = refl
 
@@ -156,14 +156,14 @@ module _ (below : ℕ) where
   is_bare (t ∷ []) b h = h
   is_bare (t ∷ u ∷ ts) b h = tt
 
-  record Tee (c : Closing) (ts : List Word) (t : Tree) (rest : List Word) : Type 0 where
-    spelled : ts ≡ spell_tee c t rest
+  record ValuesRead (c : Closing) (ts : List Word) (t : Tree) (rest : List Word) : Type 0 where
+    spelled : ts ≡ spell_values c t rest
     fits : Fits 0 room t
     ends : Ends c rest
 
-  tee_found : (c : Closing) (ts : List Word) (y : Tree × List Word) → CloseTee c → tee_of below c ts ≡ Some y → Tee c ts y.0 y.1
-  unfolding tee_of
-  tee_found c ts y close e =
+  values_found : (c : Closing) (ts : List Word) (y : Tree × List Word) → ClosesValues c → closed_values below c ts ≡ Some y → ValuesRead c ts y.0 y.1
+  unfolding closed_values
+  values_found c ts y close e =
       let made : List Tree × Bool → Reader Tree = λ a ws. Some (bare (trees_of a.0) a.1, ws) in
       let further : Tree → Reader Tree = λ t vs. items (read below E1) c (length vs + 1) (t ∷ []) vs >>= made in
       let one : Tree → Reader Tree = λ t us. on_closing c None (λ vs. Some (t, vs)) us in
@@ -184,7 +184,7 @@ module _ (below : ℕ) where
             let l = all_shaped 1 below xs a.good in
             let d = l.1 in
             let pair_is : ◌≡◌ {A = Tree × List Word} (bare (trees_of xs) q.0.0.1, q.0.1) y = cc (q.2) in
-            subst (λ p. Tee c ts p.0 p.1) pair_is (record {
+            subst (λ p. ValuesRead c ts p.0 p.1) pair_is (record {
               spelled = a.spelled ∙ sym (list_of_items xs q.0.0.1 c q.0.1);
               fits = record { shaped = (l.0, is_bare xs q.0.0.1 many); high = omega arith; shallow = omega arith };
               ends = a.ends;
@@ -192,7 +192,7 @@ module _ (below : ℕ) where
         | inr o ↦ elim (on_closing_ok c None (λ vs. Some (t, vs)) b.0.1 y o) [
           | inl k ↦ (
               let pair_is : ◌≡◌ {A = Tree × List Word} (t, k.0) y = cc (k.2) in
-              subst (λ p. Tee c ts p.0 p.1) pair_is (record {
+              subst (λ p. ValuesRead c ts p.0 p.1) pair_is (record {
                 spelled = f.spelled ∙ (ap (spell t) k.1 ∙ spell_one c t k.0 f.fits.high);
                 fits = record { shaped = f.fits.shaped; high = omega arith; shallow = f.fits.shallow };
                 ends = k.3;
@@ -201,68 +201,68 @@ module _ (below : ℕ) where
         ]
       ]
 
-  abbrev tee_made : List Tree × Bool → Reader Tree
-  tee_made a ws = Some (bare (trees_of a.0) a.1, ws)
+  abbrev values_made : List Tree × Bool → Reader Tree
+  values_made a ws = Some (bare (trees_of a.0) a.1, ws)
 
-  abbrev tee_further : Closing → Tree → Reader Tree
-  tee_further c t vs = guarded (nat_lt (depth t) room) (items (read below E1) c (length vs + 1) (t ∷ []) vs >>= tee_made)
+  abbrev values_further : Closing → Tree → Reader Tree
+  values_further c t vs = guarded (nat_lt (depth t) room) (items (read below E1) c (length vs + 1) (t ∷ []) vs >>= values_made)
 
-  abbrev tee_step : Closing → Tree → Reader Tree
-  tee_step c t us = on is.comma (on_closing c None (λ vs. Some (t, vs)) us) (tee_further c t) us
+  abbrev values_step : Closing → Tree → Reader Tree
+  values_step c t us = on is.comma (on_closing c None (λ vs. Some (t, vs)) us) (values_further c t) us
 
-  tee_items : (c : Closing) (t : Tree) (ys : List Tree) (b : Bool) (rest : List Word) → CloseTee c → AllGood (Fits 1 below) (t ∷ ys) → is_many (t ∷ ys) b ≡ true → Ends c rest →
-      tee_step c t (spell_more spell ys b c rest) ≡ Some (bare (trees_of (t ∷ ys)) b, rest)
-  tee_items c t [] true rest close g m e =
+  values_items : (c : Closing) (t : Tree) (ys : List Tree) (b : Bool) (rest : List Word) → ClosesValues c → AllGood (Fits 1 below) (t ∷ ys) → is_many (t ∷ ys) b ≡ true → Ends c rest →
+      values_step c t (spell_more spell ys b c rest) ≡ Some (bare (trees_of (t ∷ ys)) b, rest)
+  values_items c t [] true rest close g m e =
       let s = g.0.shallow in
       let vs = closes c rest in
-      guarded_by (depth t) room (items (read below E1) c (length vs + 1) (t ∷ []) vs >>= tee_made) (omega arith) ∙
-      ap (λ r. r >>= tee_made) (items_closed (read below E1) c spell (Fits 1 below) Loose (tree_laws (read below) below (read_only below) c close.loose close.fine) (length vs + 1) (t ∷ []) rest (omega arith) e)
-  tee_items c t [] false rest close g m e = absurd (cc)
-  tee_items c t (u ∷ us) b rest close g m e =
+      guarded_by (depth t) room (items (read below E1) c (length vs + 1) (t ∷ []) vs >>= values_made) (omega arith) ∙
+      ap (λ r. r >>= values_made) (items_closed (read below E1) c spell (Fits 1 below) Loose (tree_laws (read below) below (read_only below) c close.loose close.fine) (length vs + 1) (t ∷ []) rest (omega arith) e)
+  values_items c t [] false rest close g m e = absurd (cc)
+  values_items c t (u ∷ us) b rest close g m e =
       let s = g.0.shallow in
       let vs = spell_all spell (u ∷ us) b c rest in
-      guarded_by (depth t) room (items (read below E1) c (length vs + 1) (t ∷ []) vs >>= tee_made) (omega arith) ∙
-      ap (λ r. r >>= tee_made) (items_next (read below E1) c spell (Fits 1 below) Loose (tree_laws (read below) below (read_only below) c close.loose close.fine) u us (t ∷ []) b rest (length vs + 1) g.1 e (omega arith))
+      guarded_by (depth t) room (items (read below E1) c (length vs + 1) (t ∷ []) vs >>= values_made) (omega arith) ∙
+      ap (λ r. r >>= values_made) (items_next (read below E1) c spell (Fits 1 below) Loose (tree_laws (read below) below (read_only below) c close.loose close.fine) u us (t ∷ []) b rest (length vs + 1) g.1 e (omega arith))
 
-  more_loose : (c : Closing) (xs : List Tree) (b : Bool) (rest : List Word) → CloseTee c → Ends c rest → binds (spell_more spell xs b c rest) < 1
+  more_loose : (c : Closing) (xs : List Tree) (b : Bool) (rest : List Word) → ClosesValues c → Ends c rest → binds (spell_more spell xs b c rest) < 1
   more_loose c [] true rest close e = omega arith
   more_loose c [] false rest close e = close.loose rest e
   more_loose c (x ∷ xs) b rest close e = omega arith
 
-  tee_many : (c : Closing) (t : Tree) (xs : List Tree) (b : Bool) (rest : List Word) → CloseTee c → AllGood (Fits 1 below) (t ∷ xs) → is_many (t ∷ xs) b ≡ true → Ends c rest →
-      tee_of below c (spell_all spell (t ∷ xs) b c rest) ≡ Some (bare (trees_of (t ∷ xs)) b, rest)
-  unfolding tee_of
-  tee_many c t xs b rest close g m e =
+  values_many : (c : Closing) (t : Tree) (xs : List Tree) (b : Bool) (rest : List Word) → ClosesValues c → AllGood (Fits 1 below) (t ∷ xs) → is_many (t ∷ xs) b ≡ true → Ends c rest →
+      closed_values below c (spell_all spell (t ∷ xs) b c rest) ≡ Some (bare (trees_of (t ∷ xs)) b, rest)
+  unfolding closed_values
+  values_many c t xs b rest close g m e =
       let s = g.0.shallow in
       let first = read_only room E1 t (spell_more spell xs b c rest) (record { shaped = g.0.shaped; high = g.0.high; shallow = omega arith }) (more_loose c xs b rest close e) in
-      ap (λ r. r >>= tee_step c) first ∙ tee_items c t xs b rest close g m e
+      ap (λ r. r >>= values_step c) first ∙ values_items c t xs b rest close g m e
 
-  tee_one : (c : Closing) (t : Tree) (rest : List Word) → CloseTee c → Fits 1 room t → Ends c rest → tee_of below c (spell t (closes c rest)) ≡ Some (t, rest)
-  unfolding tee_of
-  tee_one c t rest close f e =
-      ap (λ r. r >>= tee_step c) (read_only room E1 t (closes c rest) f (close.loose rest e)) ∙
-      (no_comma c (on_closing c None (λ vs. Some (t, vs)) (closes c rest)) (tee_further c t) rest close.fine e ∙ on_closing_at c None (λ vs. Some (t, vs)) rest e)
+  values_one : (c : Closing) (t : Tree) (rest : List Word) → ClosesValues c → Fits 1 room t → Ends c rest → closed_values below c (spell t (closes c rest)) ≡ Some (t, rest)
+  unfolding closed_values
+  values_one c t rest close f e =
+      ap (λ r. r >>= values_step c) (read_only room E1 t (closes c rest) f (close.loose rest e)) ∙
+      (no_comma c (on_closing c None (λ vs. Some (t, vs)) (closes c rest)) (values_further c t) rest close.fine e ∙ on_closing_at c None (λ vs. Some (t, vs)) rest e)
 
   many_trees : (ts : Trees) (b : Bool) → IsBare ts b → is_many (list_trees ts) b ≡ true
   many_trees none b h = absurd h
   many_trees (more t none) b h = h
   many_trees (more t (more u ts)) b h = refl
 
-  tee_other : (c : Closing) (t : Tree) (rest : List Word) → is_bare_tree t ≡ false → CloseTee c → Fits 0 room t → Ends c rest → tee_of below c (spell_tee c t rest) ≡ Some (t, rest)
-  tee_other c t rest h close f e =
+  values_other : (c : Closing) (t : Tree) (rest : List Word) → is_bare_tree t ≡ false → ClosesValues c → Fits 0 room t → Ends c rest → closed_values below c (spell_values c t rest) ≡ Some (t, rest)
+  values_other c t rest h close f e =
       let high = one_level t h in
-      ap (tee_of below c) (sym (spell_one c t rest high)) ∙ tee_one c t rest close (record { shaped = f.shaped; high = high; shallow = f.shallow }) e
+      ap (closed_values below c) (sym (spell_one c t rest high)) ∙ values_one c t rest close (record { shaped = f.shaped; high = high; shallow = f.shallow }) e
 
-  tee_only : (c : Closing) (t : Tree) (rest : List Word) → CloseTee c → Fits 0 room t → Ends c rest → tee_of below c (spell_tee c t rest) ≡ Some (t, rest)
-  tee_only c (bare none b) rest close f e = absurd (f.shaped.1)
-  tee_only c (bare (more t ts) b) rest close f e =
+  values_only : (c : Closing) (t : Tree) (rest : List Word) → ClosesValues c → Fits 0 room t → Ends c rest → closed_values below c (spell_values c t rest) ≡ Some (t, rest)
+  values_only c (bare none b) rest close f e = absurd (f.shaped.1)
+  values_only c (bare (more t ts) b) rest close f e =
       let s = f.shallow in
       let xs = list_trees ts in
       let same_trees : trees_of xs ≡ ts = trees_of_list ts in
       let spelled : spell_list (more t ts) b c rest ≡ spell_all spell (t ∷ xs) b c rest = ap (λ us. spell_list (more t us) b c rest) (sym same_trees) ∙ list_of_items (t ∷ xs) b c rest in
-      ap (tee_of below c) spelled ∙
-      (tee_many c t xs b rest close (all_fit 1 below (more t ts) f.shaped.0 (omega arith)) (many_trees (more t ts) b f.shaped.1) e ∙ ap (λ us. Some (bare (more t us) b, rest)) same_trees)
-  tee_only c t rest close f e = tee_other c t rest refl close f e
+      ap (closed_values below c) spelled ∙
+      (values_many c t xs b rest close (all_fit 1 below (more t ts) f.shaped.0 (omega arith)) (many_trees (more t ts) b f.shaped.1) e ∙ ap (λ us. Some (bare (more t us) b, rest)) same_trees)
+  values_only c t rest close f e = values_other c t rest refl close f e
 
   -- ---- pieces
 
@@ -278,13 +278,13 @@ module _ (below : ℕ) where
       by_test false h k = absurd (cc)
   exact_found x (w ∷ ts) y e = absurd (cc)
 
-  kind_is_text : (k : TokenKind) (cs : List ℕ) → is_text_kind k ≡ true → IsText k × MayBeLiteral k cs
+  kind_is_text : (k : TokenKind) (cs : List ℕ) → is_text_kind k ≡ true → IsTextKind k × MayBeLiteral k cs
   kind_is_text literal_kind.Text cs h = (tt, refl)
   kind_is_text literal_kind.Name cs h = absurd (cc)
   kind_is_text literal_kind.Number cs h = absurd (cc)
   kind_is_text literal_kind.Mark cs h = absurd (cc)
 
-  text_is_kind : (k : TokenKind) → IsText k → is_text_kind k ≡ true
+  text_is_kind : (k : TokenKind) → IsTextKind k → is_text_kind k ≡ true
   text_is_kind literal_kind.Text h = refl
   text_is_kind literal_kind.Name h = absurd h
   text_is_kind literal_kind.Number h = absurd h
@@ -342,11 +342,11 @@ module _ (below : ℕ) where
       let b = bind_ok (read room E1 ts) made y e in
       let f = read_found room E1 ts b.0 b.1 in
       finish tree (a_tree b.0.0) ts b.0.1 y f.spelled f.fits tt b.2
-  piece_found (tee c) ts y fine e =
+  piece_found (values_to c) ts y fine e =
       let made : Tree → Reader Slot = λ t us. Some (a_tree t, us) in
-      let b = bind_ok (tee_of below c ts) made y e in
-      let f = tee_found c ts b.0 fine b.1 in
-      finish (tee c) (a_tree b.0.0) ts b.0.1 y f.spelled f.fits f.ends b.2
+      let b = bind_ok (closed_values below c ts) made y e in
+      let f = values_found c ts b.0 fine b.1 in
+      finish (values_to c) (a_tree b.0.0) ts b.0.1 y f.spelled f.fits f.ends b.2
   piece_found (names_to f) ts y fine e =
       let made : List Name → Reader Slot = λ xs us. Some (some_names xs false, us) in
       let b = bind_ok (targets f ts) made y e in
@@ -396,7 +396,7 @@ module _ (below : ℕ) where
   piece_only (exact x) nothing rest fine g m = let e = bytes_refl x in rw e refl
   piece_only any_name (a_name x) rest fine g m = rw g refl
   piece_only tree (a_tree t) rest fine g m = ap (λ r. r >>= λ u us. Some (a_tree u, us)) (read_only room E1 t rest g m)
-  piece_only (tee c) (a_tree t) rest fine g m = ap (λ r. r >>= λ u us. Some (a_tree u, us)) (tee_only c t rest fine g m)
+  piece_only (values_to c) (a_tree t) rest fine g m = ap (λ r. r >>= λ u us. Some (a_tree u, us)) (values_only c t rest fine g m)
   piece_only (names_to f) (some_names xs false) rest fine g m = ap (λ r. r >>= λ ys us. Some (some_names ys false, us)) (targets_only f xs rest fine g)
   piece_only parameters (some_names xs b) rest fine g m =
       let made : List Name × Bool → Reader Slot = λ a us. Some (some_names a.0 a.1, us) in
@@ -425,18 +425,18 @@ module _ (below : ℕ) where
   Fine (tree ∷ []) = Unit {0}
   Fine (tree ∷ word f ∷ ps) = (binding f ≡ 0) × Fine (word f ∷ ps)
   Fine (tree ∷ p ∷ ps) = ⊥
-  Fine (tee at_end ∷ []) = Unit {0}
-  Fine (tee at_end ∷ p ∷ ps) = ⊥
-  Fine (tee (by f) ∷ ps) = CloseTee (by f) × Fine ps
+  Fine (values_to at_end ∷ []) = Unit {0}
+  Fine (values_to at_end ∷ p ∷ ps) = ⊥
+  Fine (values_to (by f) ∷ ps) = ClosesValues (by f) × Fine ps
   Fine (p ∷ ps) = FinePiece p × Fine ps
 
   fine_first : (p : Piece) (ps : List Piece) → Fine (p ∷ ps) → FinePiece p × Fine ps
   fine_first tree [] h = (tt, tt)
   fine_first tree (word f ∷ ps) h = (tt, h.1)
   fine_first tree (p ∷ ps) h = absurd h
-  fine_first (tee at_end) [] h = (tee_end, tt)
-  fine_first (tee at_end) (p ∷ ps) h = absurd h
-  fine_first (tee (by f)) ps h = h
+  fine_first (values_to at_end) [] h = (values_end, tt)
+  fine_first (values_to at_end) (p ∷ ps) h = absurd h
+  fine_first (values_to (by f)) ps h = h
   fine_first p ps h = h
 
   pub pieces_found : (ps : List Piece) (ts : List Word) (ss : List Slot) → Fine ps → pieces below ps ts ≡ Some ss → (ts ≡ spell_pieces ps ss) × GoodPieces ps ss
@@ -465,9 +465,9 @@ module _ (below : ℕ) where
   may_stand tree (word f ∷ ps) [] h g = absurd g
   may_stand tree (word f ∷ ps) (s ∷ ss) h g = let b = h.0 in omega arith
   may_stand tree (p ∷ ps) ss h g = absurd h
-  may_stand (tee at_end) [] ss h g = refl
-  may_stand (tee at_end) (p ∷ ps) ss h g = absurd h
-  may_stand (tee (by f)) ps ss h g = tt
+  may_stand (values_to at_end) [] ss h g = refl
+  may_stand (values_to at_end) (p ∷ ps) ss h g = absurd h
+  may_stand (values_to (by f)) ps ss h g = tt
   may_stand p ps ss h g = tt
 
   pub pieces_only : (ps : List Piece) (ss : List Slot) → Fine ps → GoodPieces ps ss → pieces below ps (spell_pieces ps ss) ≡ Some ss

@@ -4,7 +4,7 @@ use Rattle.std.specs.Prelude.{true, false, List, [], ◌∷◌, codes, Option, S
 use Rattle.py_tree.specs.Trees.{Head, value, assign, augment, put_item, augment_item, append, extend, if_line, elif_line, else_line, while_line, for_line, def_line, return_line, return_value, pass_line, break_line, continue_line, import_marimo, import_mo, with_cache, cache_decorator, cell_decorator, cell_decorator_with, app_line}
 use Rattle.syntax_reading.specs.Words as is
 use Rattle.syntax_reading.specs.Readers.{by, at_end}
-use Rattle.syntax_reading.specs.LinePieces.{Piece, word, exact, any_name, tree, tee, names_to, parameters, arguments, text, augment_mark, Slot, nothing, a_name, a_tree, some_names, some_arguments, a_text, an_augment}
+use Rattle.syntax_reading.specs.LinePieces.{Piece, word, exact, any_name, tree, values_to, names_to, parameters, arguments, text, augment_mark, Slot, nothing, a_name, a_tree, some_names, some_arguments, a_text, an_augment}
 
 -- the forms of lines
 pub data Form : Type 0 where
@@ -36,37 +36,37 @@ pub data Form : Type 0 where
   App : Form
 
 -- this very name
-abbrev pub the : String → Piece
-the x = exact (codes x)
+abbrev pub exactly : String → Piece
+exactly x = exact (codes x)
 
 abbrev pub template : Form → List Piece
-template Value = tee at_end ∷ []
-template Assign = names_to is.assign ∷ tee at_end ∷ []
+template Value = values_to at_end ∷ []
+template Assign = names_to is.assign ∷ values_to at_end ∷ []
 template AugmentName = any_name ∷ augment_mark ∷ tree ∷ []
 template PutItem = any_name ∷ word is.square_open ∷ tree ∷ word is.square_close ∷ word is.assign ∷ tree ∷ []
 template AugmentItem = any_name ∷ word is.square_open ∷ tree ∷ word is.square_close ∷ augment_mark ∷ tree ∷ []
-template Append = any_name ∷ word is.dot ∷ the "append" ∷ word is.round_open ∷ tree ∷ word is.round_close ∷ []
-template Extend = any_name ∷ word is.dot ∷ the "extend" ∷ word is.round_open ∷ tree ∷ word is.round_close ∷ []
+template Append = any_name ∷ word is.dot ∷ exactly "append" ∷ word is.round_open ∷ tree ∷ word is.round_close ∷ []
+template Extend = any_name ∷ word is.dot ∷ exactly "extend" ∷ word is.round_open ∷ tree ∷ word is.round_close ∷ []
 template IfLine = word is.if_ ∷ tree ∷ word is.colon ∷ []
 template ElifLine = word is.elif_ ∷ tree ∷ word is.colon ∷ []
 template ElseLine = word is.else_ ∷ word is.colon ∷ []
 template WhileLine = word is.while_ ∷ tree ∷ word is.colon ∷ []
-template ForLine = word is.for_ ∷ names_to is.in_ ∷ tee (by is.colon) ∷ []
+template ForLine = word is.for_ ∷ names_to is.in_ ∷ values_to (by is.colon) ∷ []
 template DefLine = word is.def_ ∷ any_name ∷ word is.round_open ∷ parameters ∷ word is.colon ∷ []
 template Return = word is.return_ ∷ []
-template ReturnValue = word is.return_ ∷ tee at_end ∷ []
+template ReturnValue = word is.return_ ∷ values_to at_end ∷ []
 template Pass = word is.pass_ ∷ []
 template Break = word is.break_ ∷ []
 template Continue = word is.continue_ ∷ []
-template ImportMarimo = word is.import_ ∷ the "marimo" ∷ []
-template ImportMo = word is.import_ ∷ the "marimo" ∷ word is.as_ ∷ the "mo" ∷ []
-template WithCache = word is.with_ ∷ the "mo" ∷ word is.dot ∷ the "cache" ∷ word is.round_open ∷ text ∷ word is.round_close ∷ word is.colon ∷ []
+template ImportMarimo = word is.import_ ∷ exactly "marimo" ∷ []
+template ImportMo = word is.import_ ∷ exactly "marimo" ∷ word is.as_ ∷ exactly "mo" ∷ []
+template WithCache = word is.with_ ∷ exactly "mo" ∷ word is.dot ∷ exactly "cache" ∷ word is.round_open ∷ text ∷ word is.round_close ∷ word is.colon ∷ []
 template WithNamedCache =
-    word is.with_ ∷ the "mo" ∷ word is.dot ∷ the "cache" ∷ word is.round_open ∷ the "name" ∷ word is.assign ∷ text ∷ word is.round_close ∷ word is.colon ∷ []
-template CacheDecorator = word is.at_sign ∷ the "mo" ∷ word is.dot ∷ the "cache" ∷ []
-template CellDecorator = word is.at_sign ∷ the "app" ∷ word is.dot ∷ the "cell" ∷ []
-template CellDecoratorWith = word is.at_sign ∷ the "app" ∷ word is.dot ∷ the "cell" ∷ word is.round_open ∷ arguments ∷ []
-template App = the "app" ∷ word is.assign ∷ the "marimo" ∷ word is.dot ∷ the "App" ∷ word is.round_open ∷ arguments ∷ []
+    word is.with_ ∷ exactly "mo" ∷ word is.dot ∷ exactly "cache" ∷ word is.round_open ∷ exactly "name" ∷ word is.assign ∷ text ∷ word is.round_close ∷ word is.colon ∷ []
+template CacheDecorator = word is.at_sign ∷ exactly "mo" ∷ word is.dot ∷ exactly "cache" ∷ []
+template CellDecorator = word is.at_sign ∷ exactly "app" ∷ word is.dot ∷ exactly "cell" ∷ []
+template CellDecoratorWith = word is.at_sign ∷ exactly "app" ∷ word is.dot ∷ exactly "cell" ∷ word is.round_open ∷ arguments ∷ []
+template App = exactly "app" ∷ word is.assign ∷ exactly "marimo" ∷ word is.dot ∷ exactly "App" ∷ word is.round_open ∷ arguments ∷ []
 
 -- the line that a form makes of what was read
 abbrev pub make : Form → List Slot → Option Head

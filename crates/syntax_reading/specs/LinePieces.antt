@@ -23,7 +23,7 @@ pub data Piece : Type 0 where
   any_name : Piece
   tree : Piece
   -- an expression or a tuple without brackets, and what closes it
-  tee : Closing → Piece
+  values_to : Closing → Piece
   -- one or more names, and the word after them
   names_to : Fixed → Piece
   -- names, perhaps a comma, and a closing bracket
@@ -67,8 +67,8 @@ first_text (w ∷ ts) = None
 
 module _ (below : ℕ) where
   -- trees of a depth of at most one more
-  unfoldable pub tee_of : Closing → Reader Tree
-  tee_of c ts = read (suc below) E1 ts >>= λ t us. on is.comma
+  unfoldable pub closed_values : Closing → Reader Tree
+  closed_values c ts = read (suc below) E1 ts >>= λ t us. on is.comma
       (on_closing c None (λ vs. Some (t, vs)) us)
       (λ vs. guarded (nat_lt (depth t) (suc below)) (items (read below E1) c (length vs + 1) (t ∷ []) vs >>= λ a ws. Some (bare (trees_of a.0) a.1, ws))) us
 
@@ -77,7 +77,7 @@ module _ (below : ℕ) where
   piece (exact x) ts = first_exact x ts
   piece any_name ts = first_name ts >>= λ x us. Some (a_name x, us)
   piece tree ts = read (suc below) E1 ts >>= λ t us. Some (a_tree t, us)
-  piece (tee c) ts = tee_of c ts >>= λ t us. Some (a_tree t, us)
+  piece (values_to c) ts = closed_values c ts >>= λ t us. Some (a_tree t, us)
   piece (names_to f) ts = targets f ts >>= λ xs us. Some (some_names xs false, us)
   piece parameters ts = items first_name (by is.round_close) (length ts + 1) [] ts >>= λ a us. Some (some_names a.0 a.1, us)
   piece arguments ts = items (argument (read (suc below)) (suc below)) (by is.round_close) (length ts + 1) [] ts >>= λ a us.

@@ -6,6 +6,10 @@ use Rattle.syntax_reading.specs.Words.{Word, words}
 use Rattle.syntax_reading.specs.LinePieces.{Slot, pieces}
 use Rattle.syntax_reading.specs.LineForms.{Form, Value, Assign, AugmentName, PutItem, AugmentItem, Append, Extend, IfLine, ElifLine, ElseLine, WhileLine, ForLine, DefLine, Return, ReturnValue, Pass, Break, Continue, ImportMarimo, ImportMo, WithCache, WithNamedCache, CacheDecorator, CellDecorator, CellDecoratorWith, App, template, make}
 
+-- the greatest depth of the parts of a tree
+abbrev pub part_limit : ℕ
+part_limit = 63
+
 -- from the latest to the first
 abbrev pub forms : List Form
 forms =
@@ -26,7 +30,7 @@ or_else None other_way = other_way
 
 unfoldable pub first_form : List Form → List Word → Option Head
 first_form [] ts = None
-first_form (f ∷ fs) ts = or_else (one_form 63 f ts) (first_form fs ts)
+first_form (f ∷ fs) ts = or_else (one_form part_limit f ts) (first_form fs ts)
 
 -- the line that all these tokens are, if they are one
 abbrev pub read_line : List Token → Option Head
