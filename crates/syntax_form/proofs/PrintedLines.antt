@@ -1,5 +1,5 @@
 -- What spells a levelled line is spelled as tokens.
-use Rattle.std.proofs.Common.{◌≡◌, Bool, true, false, List, [], ◌∷◌, ◌++◌, refl}
+use Rattle.std.proofs.Common.{Bool, true, false, [], ◌∷◌, ◌++◌, refl}
 use Rattle.py_tree.specs.declared.token.Token as literals
 use Rattle.py_tree.specs.Trees.{Arguments, Augment, AddTo, SubtractFrom, MultiplyBy, FloorBy, RemainderBy}
 use Rattle.py_tree.specs.Trees.{Head, value, assign, augment, put_item, augment_item, append, extend, if_line, elif_line, else_line, while_line, for_line, def_line, return_line, return_value, pass_line, break_line, continue_line, import_marimo, import_mo, with_cache, cache_decorator, cell_decorator, cell_decorator_with, app_line}
@@ -44,9 +44,17 @@ line_tokens else_line l = (refl, (refl, tt))
 line_tokens (while_line t) l = (refl, closed_tokens (tokens t) (mark ":") refl (tree_tokens t l.1))
 line_tokens (for_line xs t) l =
     (refl, tokens_joined (names_tokens xs) (word "in" ∷ (tokens t ++ mark ":" ∷ [])) (targets_are_tokens xs l.0) (refl, closed_tokens (tokens t) (mark ":") refl (tree_tokens t l.1.1)))
-line_tokens (def_line x xs b) l =
-    (refl, (name_stands x l.0, (refl, tokens_joined (names_tokens xs) (if_comma b ++ mark ")" ∷ mark ":" ∷ []) (names_are_tokens xs l.1)
-      (tokens_joined (if_comma b) (mark ")" ∷ mark ":" ∷ []) (comma_tokens b) (refl, (refl, tt))))))
+line_tokens (def_line x xs b) l = (
+  refl,
+  (
+    name_stands x l.0,
+    (
+      refl,
+      tokens_joined (names_tokens xs) (if_comma b ++ mark ")" ∷ mark ":" ∷ []) (names_are_tokens xs l.1)
+          (tokens_joined (if_comma b) (mark ")" ∷ mark ":" ∷ []) (comma_tokens b) (refl, (refl, tt))),
+    ),
+  ),
+)
 line_tokens return_line l = (refl, tt)
 line_tokens (return_value t) l = (refl, tree_tokens t l.1)
 line_tokens pass_line l = (refl, tt)

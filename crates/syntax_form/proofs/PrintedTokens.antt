@@ -1,5 +1,5 @@
 -- What spells a levelled expression is spelled as tokens.
-use Rattle.std.proofs.Common.{◌≡◌, ℕ, Bool, true, false, List, [], ◌∷◌, ◌++◌, codes, IsTrue, refl, sym, subst}
+use Rattle.std.proofs.Common.{◌≡◌, ℕ, Bool, true, false, List, [], ◌∷◌, ◌++◌, codes, IsTrue, refl, subst}
 use Rattle.std.specs.Prelude.{not, ◌&&◌, ◌||◌}
 use Rattle.std.specs.Str.{bytes_eq}
 use Rattle.std.proofs.lemmas.Slice.Eq.{bytes_eq-Decides}
@@ -20,7 +20,7 @@ use Rattle.lexical_form.specs.Tokens.{Token}
 use Rattle.lexical_form.proofs.Basics.{and_left, both}
 use Rattle.syntax_form.specs.Levelled.{Levelled, AllLevelled, LinksLevelled, ArgumentsLevelled, PairsLevelled, BoundLevelled}
 use Rattle.syntax_form.specs.Literals.{IsName, IsLiteral, constants}
-use Rattle.syntax_form.specs.Printing.{name_token, word, mark, kind_of, operator_token, prefix_token, comparison_tokens, if_comma, if_not, later_names, names_tokens, tokens, list_tokens, later_tokens, argument_tokens, later_argument_tokens, pair_tokens, later_pair_tokens, link_tokens, test_tokens, bound_tokens, token_pieces}
+use Rattle.syntax_form.specs.Printing.{name_token, word, mark, kind_of, operator_token, prefix_token, comparison_tokens, if_comma, if_not, later_names, names_tokens, tokens, list_tokens, later_tokens, argument_tokens, later_argument_tokens, pair_tokens, later_pair_tokens, link_tokens, test_tokens, bound_tokens}
 use Rattle.syntax_form.specs.Shapes.{AreEach, AreTargets}
 use Rattle.syntax_form.specs.SpelledTokens.{AreTokens}
 use Rattle.syntax_form.proofs.TokenLaws.{tokens_joined, never}
@@ -135,20 +135,30 @@ mutual
   tree_tokens (dict ps b) l = (refl, closed_tokens (pair_tokens ps ++ if_comma b) (mark "}") refl (tokens_joined (pair_tokens ps) (if_comma b) (pairs_are_tokens ps l.0) (comma_tokens b)))
   tree_tokens (list_of t xs from tests) l =
       let source = tokens from ++ test_tokens tests in
-      let clause = names_tokens xs ++ word "in" ∷ source in
-      (refl, closed_tokens (tokens t ++ word "for" ∷ clause) (mark "]") refl
-        (tokens_joined (tokens t) (word "for" ∷ clause) (tree_tokens t l.1)
-          (refl, tokens_joined (names_tokens xs) (word "in" ∷ source) (targets_are_tokens xs l.2)
-            (refl, tokens_joined (tokens from) (test_tokens tests) (tree_tokens from l.4) (tests_are_tokens tests l.5)))))
+      let clause = names_tokens xs ++ word "in" ∷ source in (
+        refl,
+        closed_tokens (tokens t ++ word "for" ∷ clause) (mark "]") refl
+            (tokens_joined (tokens t) (word "for" ∷ clause) (tree_tokens t l.1) (
+              refl,
+              tokens_joined (names_tokens xs) (word "in" ∷ source) (targets_are_tokens xs l.2)
+                  (refl, tokens_joined (tokens from) (test_tokens tests) (tree_tokens from l.4) (tests_are_tokens tests l.5)),
+            )),
+      )
   tree_tokens (dict_of k t xs from tests) l =
       let source = tokens from ++ test_tokens tests in
       let clause = names_tokens xs ++ word "in" ∷ source in
-      let item = tokens t ++ word "for" ∷ clause in
-      (refl, closed_tokens (tokens k ++ mark ":" ∷ item) (mark "}") refl
-        (tokens_joined (tokens k) (mark ":" ∷ item) (tree_tokens k l.1)
-          (refl, tokens_joined (tokens t) (word "for" ∷ clause) (tree_tokens t l.3)
-            (refl, tokens_joined (names_tokens xs) (word "in" ∷ source) (targets_are_tokens xs l.4)
-              (refl, tokens_joined (tokens from) (test_tokens tests) (tree_tokens from l.6) (tests_are_tokens tests l.7))))))
+      let item = tokens t ++ word "for" ∷ clause in (
+        refl,
+        closed_tokens (tokens k ++ mark ":" ∷ item) (mark "}") refl
+            (tokens_joined (tokens k) (mark ":" ∷ item) (tree_tokens k l.1) (
+              refl,
+              tokens_joined (tokens t) (word "for" ∷ clause) (tree_tokens t l.3) (
+                refl,
+                tokens_joined (names_tokens xs) (word "in" ∷ source) (targets_are_tokens xs l.4)
+                    (refl, tokens_joined (tokens from) (test_tokens tests) (tree_tokens from l.6) (tests_are_tokens tests l.7)),
+              ),
+            )),
+      )
   tree_tokens (bare ts b) l = tokens_joined (list_tokens ts) (if_comma b) (list_are_tokens 1 ts l.0) (comma_tokens b)
 
   list_are_tokens : (k : ℕ) (ts : Trees) → AllLevelled k ts → AreTokens (list_tokens ts)
