@@ -2,7 +2,7 @@
 ghost use Rattle.std.specs.Prelude.{◌≡◌, ◌++◌, ◌∷◌, [], OnOk};
 ghost use Rattle.cell_graph.specs.Texts.{texts};
 ghost use Rattle.py_tree.specs.Scope as scope;
-ghost use Rattle.py_tree.specs.View.{view, view_arguments, view_block, view_head};
+ghost use Rattle.py_tree.specs.View.{view, view_block, view_head};
 
 use py_tree::{Argument, Block, Expr, Line, Spelling};
 use py_value::Memory;
@@ -32,7 +32,6 @@ pub(crate) fn add_read<'a>(names: &mut Vec<&'a str>, block: &'a Block) -> Result
 }
 
 // Adds the names that an expression reads.
-#[cycle(add_reads)]
 fn add_reads<'a>(names: &mut Vec<&'a str>, expr: &'a Expr) -> Result<(), Memory>
     ensures { OnOk result
         (texts names.new.items ≡ texts names.old.items ++ scope.reads (view expr.now)) }
@@ -48,25 +47,16 @@ fn add_reads<'a>(names: &mut Vec<&'a str>, expr: &'a Expr) -> Result<(), Memory>
             callee, arguments, ..
         } => {
             add_reads(names, callee.get())?;
-            add_all_reads(names, arguments.items())
+            for argument in arguments.items() {
+                match argument {
+                    Argument::Positional(value) => add_reads(names, value)?,
+                    Argument::Keyword(_, value) => add_reads(names, value)?,
+                }
+            }
+            Ok(())
         }
         _ => Ok(()),
     }
-}
-
-// Adds the names that arguments read.
-#[cycle(add_reads)]
-fn add_all_reads<'a>(names: &mut Vec<&'a str>, arguments: &'a [Argument]) -> Result<(), Memory>
-    ensures { OnOk result
-        (texts names.new.items ≡ texts names.old.items ++ scope.all_reads (view_arguments arguments.now)) }
-{
-    for argument in arguments {
-        match argument {
-            Argument::Positional(value) => add_reads(names, value)?,
-            Argument::Keyword(_, value) => add_reads(names, value)?,
-        }
-    }
-    Ok(())
 }
 
 // Adds one name.

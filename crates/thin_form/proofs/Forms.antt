@@ -1,5 +1,5 @@
 -- What the tests of terms and sliders tell of a tree.
-use Rattle.std.proofs.Common.{◌≡◌, ℕ, true, nat_le, List, refl, sym, ap, ◌∙◌}
+use Rattle.std.proofs.Common.{◌≡◌, ℕ, true, false, nat_le, List, refl, sym, ap, ◌∙◌}
 use Rattle.std.specs.Prelude.{codes}
 use Rattle.std.proofs.lemmas.Bool.{and_parts, and_from}
 use Rattle.thin_form.specs.Sliders.{Bounds, maker, slider, are_bounds}

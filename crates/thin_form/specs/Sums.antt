@@ -30,6 +30,10 @@ next_term [] = None
 next_term (mark ∷ []) = None
 next_term (mark ∷ word ∷ rest) = if bytes_eq mark (codes "+") then Some (word, rest) else None
 
+-- the tree with the term that follows it, and the words after that
+abbrev pub one_more : Elements → Tree → List (List ℕ) → Option (Tree × List (List ℕ))
+one_more es t line = next_term line >>= λ p. read_term es p.0 >>= λ u. Some (binary Add t u, p.1)
+
 -- the tree with the terms that follow it
 abbrev pub read_more : Elements → Tree → List (List ℕ) → Option Tree
 read_more es t [] = Some t

@@ -27,19 +27,36 @@ pub fn read_sum(alloc: Global, text: &str, elements: &SliderNames) -> Result<Opt
         let Some(text) = rest else {
             return Ok(Some(tree));
         };
-        let Some((word, after)) = next_term(text) else {
+        let Some((longer, after)) = with_term(alloc, tree, text, elements)? else {
             return Ok(None);
         };
-        let Some(right) = read_term(alloc, word, elements)? else {
-            return Ok(None);
-        };
-        tree = trees::sum(alloc, tree, right)?;
+        tree = longer;
         rest = after;
     }
     match rest {
         None => Ok(Some(tree)),
         Some(_) => Ok(None),
     }
+}
+
+// The tree with the term that the text begins with behind `+ `, and the text after it.
+fn with_term<'a>(
+    alloc: Global,
+    tree: Expr,
+    text: &'a str,
+    elements: &SliderNames,
+) -> Result<Option<(Expr, Option<&'a str>)>, Memory>
+    ensures { IfOk result
+        (λ o. option_map (λ p. (view p.0, words_left (option_map (λ t. t.now) p.1))) o
+        ≡ reading.one_more (as_elements elements.now) (view tree) (words text.now)) }
+{
+    let Some((word, after)) = next_term(text) else {
+        return Ok(None);
+    };
+    let Some(right) = read_term(alloc, word, elements)? else {
+        return Ok(None);
+    };
+    Ok(Some((trees::sum(alloc, tree, right)?, after)))
 }
 
 // The word after `+ `, and the text after it.
