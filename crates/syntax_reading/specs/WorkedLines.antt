@@ -42,7 +42,7 @@ assignment_rows =
     ∷ row "x[a + b] = c" (put_item (codes "x") (binary Add (named "a") (named "b")) (named "c"))
     ∷ row "x[1] += 2" (augment_item (codes "x") (number "1") AddTo (number "2"))
     -- Python takes these
-    ∷ all_refused ("a, = b" ∷ "(a) = b" ∷ "a = b = c" ∷ "a: int = 1" ∷ "*a, b = c" ∷ "x.y = 1" ∷ "x[1] = 2, 3" ∷ "x[1][2] = a" ∷ "x[1:2] = a" ∷
+    ∷ all_refused ("a, = b" ∷ "a, b, = c" ∷ "(a) = b" ∷ "a = b = c" ∷ "a: int = 1" ∷ "*a, b = c" ∷ "x.y = 1" ∷ "x[1] = 2, 3" ∷ "x[1][2] = a" ∷ "x[1:2] = a" ∷
     "a += 1, 2" ∷ "a **= 2" ∷ [])
     ++ all_refused ("a =" ∷ "a, b += 1" ∷ "None = a" ∷ "x = lambda" ∷ [])
 
@@ -63,7 +63,7 @@ block_rows =
     ∷ row "with mo.cache(\"t\"):" (with_cache false (a_text "\"t\""))
     ∷ row "with mo.cache(name='t'):" (with_cache true (a_text "'t'"))
     -- Python takes these
-    ∷ all_refused ("for a, in b:" ∷ "for x[1] in b:" ∷ "def f(a=1):" ∷ "def f(*a):" ∷ "def f() -> a:" ∷ "with mo.cache(t):" ∷
+    ∷ all_refused ("for a, in b:" ∷ "for a, b, in c:" ∷ "for x[1] in b:" ∷ "def f(a=1):" ∷ "def f(*a):" ∷ "def f() -> a:" ∷ "with mo.cache(t):" ∷
     "with mo.cache():" ∷ "with mo.cache(\"t\") as a:" ∷ "class A:" ∷ "try:" ∷ "async def f():" ∷ [])
     ++ all_refused ("if a" ∷ "if a, b:" ∷ "else a:" ∷ "while:" ∷ "def f:" ∷ "def f(,):" ∷ [])
 
