@@ -13,7 +13,7 @@ pub(crate) fn add_bound<'a>(names: &mut Vec<&'a str>, block: &'a Block) -> Resul
         (texts names.new.items ≡ texts names.old.items ++ scope.bound (view_block block.now)) }
 {
     for stmt in block.items() {
-        add_line_binds(names, &stmt.line)?;
+        add_line_binds(names, stmt.line.get())?;
         add_bound(names, &stmt.block)?;
     }
     Ok(())
@@ -25,7 +25,7 @@ pub(crate) fn add_read<'a>(names: &mut Vec<&'a str>, block: &'a Block) -> Result
         (texts names.new.items ≡ texts names.old.items ++ scope.read_names (view_block block.now)) }
 {
     for stmt in block.items() {
-        add_line_reads(names, &stmt.line)?;
+        add_line_reads(names, stmt.line.get())?;
         add_read(names, &stmt.block)?;
     }
     Ok(())
@@ -49,8 +49,8 @@ fn add_reads<'a>(names: &mut Vec<&'a str>, expr: &'a Expr) -> Result<(), Memory>
             add_reads(names, callee.get())?;
             for argument in arguments.items() {
                 match argument {
-                    Argument::Positional(value) => add_reads(names, value)?,
-                    Argument::Keyword(_, value) => add_reads(names, value)?,
+                    Argument::Positional(value) => add_reads(names, value.get())?,
+                    Argument::Keyword(_, value) => add_reads(names, value.get())?,
                 }
             }
             Ok(())
@@ -73,8 +73,8 @@ fn add_line_reads<'a>(names: &mut Vec<&'a str>, line: &'a Line) -> Result<(), Me
         (texts names.new.items ≡ texts names.old.items ++ scope.head_reads (view_head line.now)) }
 {
     match line {
-        Line::Value(value) => add_reads(names, value),
-        Line::Assign(_, value) => add_reads(names, value),
+        Line::Value(value) => add_reads(names, value.get()),
+        Line::Assign(_, value) => add_reads(names, value.get()),
         _ => Ok(()),
     }
 }

@@ -5,7 +5,7 @@ use Rattle.std.proofs.lemmas.Bool.{and_parts}
 use Rattle.std.specs.Prelude.{nat_lt}
 use denote.Hole.Carrier.{roll}
 use Rattle.py_tree.specs.declared.expr.Argument.{Argument, roll-Argument, fold-roll-Argument}
-use Rattle.py_tree.specs.declared.expr.Argument.TheVariants.{Positional, Keyword}
+use Rattle.py_tree.specs.declared.expr.Argument.TheVariants.{Positional}
 use Rattle.py_tree.specs.declared.expr.Argument.TheOpen.{Argument-F, Expr-F}
 use Rattle.py_tree.specs.declared.expr.Expr.{Expr, roll-Expr, fold-roll-Expr}
 use Rattle.py_tree.specs.declared.expr.Expr.TheVariants.{Add, Attribute, Call}
@@ -13,7 +13,7 @@ use Rattle.py_tree.specs.declared.expr.Expr.TheVariants as variant
 use Rattle.py_tree.specs.ExprView.{argument_step, expr_step, piece_step, link_step, pair_step}
 use Rattle.py_tree.specs.Levels.{is_levelled, are_levelled_arguments, level}
 use Rattle.py_tree.specs.Names.{Name}
-use Rattle.py_tree.specs.Trees.{Tree, Arguments, positional, keyword, name, binary, attribute, call}
+use Rattle.py_tree.specs.Trees.{Tree, Arguments, positional, name, binary, attribute, call}
 use Rattle.py_tree.specs.Trees as pure
 use Rattle.py_tree.specs.View.{view, view_argument, view_arguments}
 
@@ -64,20 +64,15 @@ view_positional : (e : Expr) (rest : Arguments) → view_argument (Positional e)
 unfolding roll-Argument roll
 view_positional e rest = ap (λ (put : Arguments → Arguments). put rest) (fold-roll-Argument _ Tree _ _ _ argument_step expr_step piece_step link_step pair_step (Argument-F.Positional e))
 
-view_keyword : (x : Name) (e : Expr) (rest : Arguments) → view_argument (Keyword x e) rest ≡ keyword x (view e) rest
-unfolding roll-Argument roll
-view_keyword x e rest = ap (λ (put : Arguments → Arguments). put rest) (fold-roll-Argument _ Tree _ _ _ argument_step expr_step piece_step link_step pair_step (Argument-F.Keyword x e))
-
 -- what is left of arguments begins with the next one
 place_argument : (args : List Argument) (i : ℕ) (a : Argument) → i < length args → a ≡ get_or args i a → view_arguments (drop i args) ≡ view_argument a (view_arguments (drop (i + 1) args))
 place_argument args i a lt is = ap view_arguments (drop-cons args i a lt ∙ (λ j. sym is j ∷ drop (suc i) args) ∙ ap (λ n. a ∷ drop n args) (sym (add-one i)))
 
 module _ (args : List Argument) (i : ℕ) (a : Argument) (lt : i < length args) (is : a ≡ get_or args i a) where
-  pub place_tree : (e : Expr) → a ≡ Positional e → view_arguments (drop i args) ≡ positional (view e) (view_arguments (drop (i + 1) args))
-  place_tree e one = place_argument args i a lt is ∙ ap (λ (b : Argument). view_argument b (view_arguments (drop (i + 1) args))) one ∙ view_positional e _
-
-  pub place_keyword : (x : Name) (e : Expr) → a ≡ Keyword x e → view_arguments (drop i args) ≡ keyword x (view e) (view_arguments (drop (i + 1) args))
-  place_keyword x e one = place_argument args i a lt is ∙ ap (λ (b : Argument). view_argument b (view_arguments (drop (i + 1) args))) one ∙ view_keyword x e _
+  pub place_tree : (e e' : Expr) → a ≡ Positional e → e' ≡ e → view_arguments (drop i args) ≡ positional (view e') (view_arguments (drop (i + 1) args))
+  place_tree e e' one same =
+      place_argument args i a lt is ∙ ap (λ (b : Argument). view_argument b (view_arguments (drop (i + 1) args))) one
+      ∙ view_positional e _ ∙ λ j. positional (view (sym same j)) (view_arguments (drop (i + 1) args))
 
 module _ (args rest : Arguments) (t : Tree) (is : args ≡ positional t rest) where
   pub rest_levelled : IsTrue (are_levelled_arguments args) → IsTrue (are_levelled_arguments rest)

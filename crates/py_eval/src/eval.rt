@@ -78,7 +78,7 @@ pub fn eval_all(
         let Argument::Positional(tree) = argument else {
             return Err(unknown_form(line));
         };
-        values.push(eval(alloc, tree, scene, env, line, left)?)?;
+        values.push(eval(alloc, tree.get(), scene, env, line, left)?)?;
     }
     Ok(values)
 }

@@ -38,7 +38,7 @@ pub fn run_lines(
     let mut last = None;
     for stmt in stmts {
         charge(left, 1, stmt.number)?;
-        last = run_line(alloc, &stmt.line, stmt.number, scene, env, left)?;
+        last = run_line(alloc, stmt.line.get(), stmt.number, scene, env, left)?;
     }
     Ok(last)
 }
@@ -60,10 +60,10 @@ fn run_line(
     ensures used { left.new ≤ left.old }
 {
     match line {
-        Line::Value(tree) => Ok(Some(eval(alloc, tree, scene, env, number, left)?)),
+        Line::Value(tree) => Ok(Some(eval(alloc, tree.get(), scene, env, number, left)?)),
         Line::Assign(targets, tree) => {
             let names = targets.items();
-            let value = right_side(alloc, names, tree, scene, env, number, left)?;
+            let value = right_side(alloc, names, tree.get(), scene, env, number, left)?;
             bind_targets(alloc, names, value, number, env)?;
             Ok(None)
         }

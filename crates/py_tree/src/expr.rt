@@ -7,6 +7,9 @@ use crate::token::Token;
 use sqlite_items::Boxed;
 
 /// An expression (Python language reference, section 6). What the tokens show stands in it: round brackets, and a last comma.
+///
+/// It is held, passed and given as a `Boxed<Expr>`: each field of each variant is a place to the prover, so a function with branches that has
+/// an `Expr` of its own takes it minutes.
 #[cycle(expr)]
 #[derive(Debug, Drop)]
 pub enum Expr {
@@ -70,12 +73,12 @@ pub enum Expr {
     Paren(Boxed<Expr>),
     /// `(ITEMS)`: none, or at least one comma.
     Tuple {
-        items: Row<Expr>,
+        items: Row<Boxed<Expr>>,
         comma: bool,
     },
     /// `[ITEMS]`
     List {
-        items: Row<Expr>,
+        items: Row<Boxed<Expr>>,
         comma: bool,
     },
     /// `{KEY: ITEM, ..}`
@@ -88,7 +91,7 @@ pub enum Expr {
         item: Boxed<Expr>,
         targets: Spellings,
         from: Boxed<Expr>,
-        tests: Row<Expr>,
+        tests: Row<Boxed<Expr>>,
     },
     /// `{KEY: ITEM for TARGETS in FROM if TEST ..}`
     DictOf {
@@ -96,11 +99,11 @@ pub enum Expr {
         item: Boxed<Expr>,
         targets: Spellings,
         from: Boxed<Expr>,
-        tests: Row<Expr>,
+        tests: Row<Boxed<Expr>>,
     },
     /// A tuple without brackets.
     Bare {
-        items: Row<Expr>,
+        items: Row<Boxed<Expr>>,
         comma: bool,
     },
 }
@@ -131,7 +134,7 @@ pub enum Comparison {
 #[derive(Debug, Drop)]
 pub struct Link {
     pub comparison: Comparison,
-    pub operand: Expr,
+    pub operand: Boxed<Expr>,
 }
 
 /// An argument of a call.
@@ -139,17 +142,17 @@ pub struct Link {
 #[derive(Debug, Drop)]
 pub enum Argument {
     /// `VALUE`
-    Positional(Expr),
+    Positional(Boxed<Expr>),
     /// `NAME=VALUE`
-    Keyword(Spelling, Expr),
+    Keyword(Spelling, Boxed<Expr>),
 }
 
 /// `KEY: ITEM` of a dictionary display.
 #[cycle(expr)]
 #[derive(Debug, Drop)]
 pub struct Pair {
-    pub key: Expr,
-    pub item: Expr,
+    pub key: Boxed<Expr>,
+    pub item: Boxed<Expr>,
 }
 
 /// A piece of an f-text.
@@ -160,7 +163,7 @@ pub enum TextPiece {
     Chars(Spelling),
     /// A field: its expression, and how its value becomes a text.
     Field {
-        value: Expr,
+        value: Boxed<Expr>,
         convert: Convert,
         spec: Option<Spec>,
     },
