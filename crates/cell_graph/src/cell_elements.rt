@@ -14,7 +14,7 @@ pub fn elements(alloc: Global, cell: &CellCode) -> Result<Lines, Memory>
 {
     let mut names = Vec::new(alloc);
     for stmt in cell.body.items() {
-        if let Some(name) = element_name(&stmt.line) {
+        if let Some(name) = element_name(stmt.line.get()) {
             names.push(Text::of(String::from_str(alloc, name)?))?;
         }
     }
@@ -27,8 +27,8 @@ fn element_name(line: &Line) -> Option<&str>
         ≡ created.head_elements (view_head line.now) }
 {
     match line {
-        Line::Assign(targets, Expr::Call(callee, _)) => match targets.items() {
-            [name] => {
+        Line::Assign(targets, value) => match (targets.items(), value.get()) {
+            ([name], Expr::Call { callee, .. }) => {
                 ui_kind(callee.get())?;
                 Some(name.items())
             }

@@ -2,9 +2,9 @@
 ghost use Rattle.std.specs.Prelude.{◌≡◌, ◌++◌, ◌∷◌, [], OnOk};
 ghost use Rattle.cell_graph.specs.Texts.{texts};
 ghost use Rattle.py_tree.specs.Scope as scope;
-ghost use Rattle.py_tree.specs.View.{view, views, view_block, view_head};
+ghost use Rattle.py_tree.specs.View.{view, view_block, view_head};
 
-use py_tree::{Block, Expr, Line, Spelling};
+use py_tree::{Argument, Block, Expr, Line, Spelling};
 use py_value::Memory;
 
 // Adds every name that lines and their blocks bind at cell scope.
@@ -13,7 +13,7 @@ pub(crate) fn add_bound<'a>(names: &mut Vec<&'a str>, block: &'a Block) -> Resul
         (texts names.new.items ≡ texts names.old.items ++ scope.bound (view_block block.now)) }
 {
     for stmt in block.items() {
-        add_line_binds(names, &stmt.line)?;
+        add_line_binds(names, stmt.line.get())?;
         add_bound(names, &stmt.block)?;
     }
     Ok(())
@@ -25,43 +25,38 @@ pub(crate) fn add_read<'a>(names: &mut Vec<&'a str>, block: &'a Block) -> Result
         (texts names.new.items ≡ texts names.old.items ++ scope.read_names (view_block block.now)) }
 {
     for stmt in block.items() {
-        add_line_reads(names, &stmt.line)?;
+        add_line_reads(names, stmt.line.get())?;
         add_read(names, &stmt.block)?;
     }
     Ok(())
 }
 
 // Adds the names that an expression reads.
-#[cycle(add_reads)]
 fn add_reads<'a>(names: &mut Vec<&'a str>, expr: &'a Expr) -> Result<(), Memory>
     ensures { OnOk result
         (texts names.new.items ≡ texts names.old.items ++ scope.reads (view expr.now)) }
 {
     match expr {
-        Expr::Literal(_) => Ok(()),
         Expr::Name(name) => add_name(names, name),
-        Expr::Sum(left, right) => {
+        Expr::Add(left, right) => {
             add_reads(names, left.get())?;
             add_reads(names, right.get())
         }
         Expr::Attribute(base, _) => add_reads(names, base.get()),
-        Expr::Call(callee, arguments) => {
+        Expr::Call {
+            callee, arguments, ..
+        } => {
             add_reads(names, callee.get())?;
-            add_all_reads(names, arguments.items())
+            for argument in arguments.items() {
+                match argument {
+                    Argument::Positional(value) => add_reads(names, value.get())?,
+                    Argument::Keyword(_, value) => add_reads(names, value.get())?,
+                }
+            }
+            Ok(())
         }
+        _ => Ok(()),
     }
-}
-
-// Adds the names that expressions read.
-#[cycle(add_reads)]
-fn add_all_reads<'a>(names: &mut Vec<&'a str>, exprs: &'a [Expr]) -> Result<(), Memory>
-    ensures { OnOk result
-        (texts names.new.items ≡ texts names.old.items ++ scope.all_reads (views exprs.now)) }
-{
-    for expr in exprs {
-        add_reads(names, expr)?;
-    }
-    Ok(())
 }
 
 // Adds one name.
@@ -78,9 +73,9 @@ fn add_line_reads<'a>(names: &mut Vec<&'a str>, line: &'a Line) -> Result<(), Me
         (texts names.new.items ≡ texts names.old.items ++ scope.head_reads (view_head line.now)) }
 {
     match line {
-        Line::Value(value) => add_reads(names, value),
-        Line::Assign(_, value) => add_reads(names, value),
-        Line::ImportMo => Ok(()),
+        Line::Value(value) => add_reads(names, value.get()),
+        Line::Assign(_, value) => add_reads(names, value.get()),
+        _ => Ok(()),
     }
 }
 
@@ -90,13 +85,13 @@ fn add_line_binds<'a>(names: &mut Vec<&'a str>, line: &'a Line) -> Result<(), Me
         (texts names.new.items ≡ texts names.old.items ++ scope.head_binds (view_head line.now)) }
 {
     match line {
-        Line::Value(_) => {}
         Line::Assign(targets, _) => {
             for target in targets.items() {
                 add_name(names, target)?;
             }
         }
         Line::ImportMo => names.push("mo")?,
+        _ => {}
     }
     Ok(())
 }

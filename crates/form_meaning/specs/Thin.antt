@@ -7,7 +7,7 @@ use Rattle.py_tree.specs.Names.{Name, is_among, is_name}
 use Rattle.py_tree.specs.TextLines.{text_of, byte_limit}
 use Rattle.py_tree.specs.Numbers.{number_of}
 use Rattle.py_tree.specs.Levels.{is_literal}
-use Rattle.py_tree.specs.Trees.{Tree, literal, name, sum, attribute, call, Trees, none, more, Head, value, assign, import_mo, stmt, Stmts, end, then_comes, Cell}
+use Rattle.py_tree.specs.Trees.{Tree, literal, name, binary, Add, attribute, call, Arguments, no_argument, positional, Head, value, assign, import_mo, stmt, Stmts, end, then_comes, Cell}
 
 -- What the lines of a file say of its elements: which names are those of sliders, and whether a line imports `mo`.
 pub record Elements : Type 0 where
@@ -33,12 +33,12 @@ is_term es t = false
 
 -- terms joined by `+`, from the left
 abbrev pub is_chain : Elements → Tree → Bool
-is_chain es (sum a b) = is_chain es a && is_term es b
+is_chain es (binary Add a b) = is_chain es a && is_term es b
 is_chain es t = is_term es t
 
 -- how many terms a chain has
 abbrev pub terms : Tree → ℕ
-terms (sum a b) = terms a + 1
+terms (binary Add a b) = terms a + 1
 terms t = 1
 
 -- 1 to 32 terms
@@ -56,13 +56,13 @@ number_in (literal token) = number_of token.spelling
 number_in t = 0
 
 -- two numbers, of which the first isn't the greater
-abbrev pub are_bounds : Trees → Bool
-are_bounds (more a (more b none)) = is_number_tree a && is_number_tree b && nat_le (number_in a) (number_in b)
-are_bounds ts = false
+abbrev pub are_bounds : Arguments → Bool
+are_bounds (positional a (positional b no_argument)) = is_number_tree a && is_number_tree b && nat_le (number_in a) (number_in b)
+are_bounds args = false
 
 -- `mo.ui.slider(LOW, HIGH)`
 abbrev pub makes_slider : Tree → Bool
-makes_slider (call callee args) = is_maker callee && are_bounds args
+makes_slider (call callee args false) = is_maker callee && are_bounds args
 makes_slider t = false
 
 -- one name, which is that of a slider or not
@@ -75,6 +75,7 @@ abbrev pub is_line : Elements → Head → Bool
 is_line es (value t) = is_sum es t
 is_line es (assign targets t) = (is_target es false targets && is_sum es t) || (is_target es true targets && makes_slider t && es.imported)
 is_line es import_mo = es.imported
+is_line es h = false
 
 -- the line is the whole body of its cell
 abbrev pub stands_alone : Head → Bool
@@ -141,19 +142,20 @@ elements_of nb =
 abbrev pub are_thin : List Cell → Bool
 are_thin nb = are_cells (elements_of nb) 3 nb && nat_le (sum_by (λ (c : Cell). line_count c.body) nb) 1000
 
--- the text of an expression, and of expressions with commas between them
+-- The text of an expression, and of arguments with commas between them. Forms that the thin form doesn't have need none.
 abbrev mutual
   pub tree_text : Tree → List ℕ
   tree_text (literal token) = token.spelling
   tree_text (name x) = x
-  tree_text (sum a b) = tree_text a ++ codes " + " ++ tree_text b
+  tree_text (binary Add a b) = tree_text a ++ codes " + " ++ tree_text b
   tree_text (attribute base x) = tree_text base ++ codes "." ++ x
-  tree_text (call callee args) = tree_text callee ++ codes "(" ++ trees_text args ++ codes ")"
+  tree_text (call callee args comma) = tree_text callee ++ codes "(" ++ arguments_text args ++ codes ")"
+  tree_text t = []
 
-  pub trees_text : Trees → List ℕ
-  trees_text none = []
-  trees_text (more t none) = tree_text t
-  trees_text (more t (more u rest)) = tree_text t ++ codes ", " ++ trees_text (more u rest)
+  pub arguments_text : Arguments → List ℕ
+  arguments_text (positional t no_argument) = tree_text t
+  arguments_text (positional t (positional u rest)) = tree_text t ++ codes ", " ++ arguments_text (positional u rest)
+  arguments_text args = []
 
 -- names with commas between them
 abbrev pub names_text : List Name → List ℕ
@@ -166,6 +168,7 @@ abbrev pub head_text : Head → List ℕ
 head_text (value t) = tree_text t
 head_text (assign targets t) = names_text targets ++ codes " = " ++ tree_text t
 head_text import_mo = codes "import marimo as mo"
+head_text h = []
 
 -- the text of a body line, without its `\n`
 abbrev pub line_text : Head → List ℕ

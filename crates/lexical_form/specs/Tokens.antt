@@ -1,26 +1,6 @@
 -- Tokens as pure data (Python language reference, section 2).
-use Rattle.std.specs.Prelude.{ℕ, Bool, List, [], ◌∷◌, Option}
-
--- how the value of an f-text's field becomes a text: by its own rule, `!r` or `!s`
-pub data Convert : Type 0 where
-  as_is : Convert
-  repr : Convert
-  str : Convert
-
-pub data Align : Type 0 where
-  left : Align
-  right : Align
-  center : Align
-
-pub data Form : Type 0 where
-  decimal : Form
-  string : Form
-
--- the format of a field: alignment, width and type, each of which may be missing; `0`, a width, and whether a `d` follows; `,`, and the same
-pub data Spec : Type 0 where
-  aligned : Option Align → (width : Option ℕ) → Option Form → Spec
-  zeros : (width : ℕ) → Bool → Spec
-  comma : Bool → Spec
+use Rattle.std.specs.Prelude.{ℕ, List, [], ◌∷◌, Option}
+pub use Rattle.py_tree.specs.FieldFormats.{Convert, as_is, repr, str, Align, left, right, center, Form, decimal, string, Spec, aligned, zeros, comma}
 
 -- A token with its spelling. Of an f-text there is also what it is made of: texts that stand for themselves, and fields.
 mutual

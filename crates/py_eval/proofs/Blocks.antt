@@ -2,6 +2,7 @@
 use Rattle.std.proofs.Common.{◌≡◌, ◌∙◌, ap, sym, subst, ℕ, suc, ◌+◌, ◌<◌, true, IsTrue, ◌&&◌, List, ◌∷◌, ◌++◌, length, drop, get_or, add-one}
 use Rattle.std.proofs.Math.Seq.{drop-cons}
 use Rattle.std.proofs.lemmas.Bool.{and_parts}
+use Rattle.py_tree.specs.declared.tree.Line.{Line}
 use Rattle.py_tree.specs.declared.tree.Stmt.{Stmt, out-Stmt, roll-out-Stmt, fold-roll-Stmt}
 use Rattle.py_tree.specs.Levels.{is_levelled_head, are_levelled}
 use Rattle.py_tree.specs.Names.{Name, is_among}
@@ -15,11 +16,12 @@ view_line : (s : Stmt) → view_stmt s ≡ stmt (out-Stmt s).number (view_head (
 view_line s = ap view_stmt (sym (roll-out-Stmt s)) ∙ fold-roll-Stmt Stmts pure.Stmt block_step stmt_step (out-Stmt s)
 
 -- what is left of the lines begins with the next one
-pub place : (ss : List Stmt) (i : ℕ) (s : Stmt) → i < length ss → s ≡ get_or ss i s →
-    view_stmts (drop i ss) ≡ then_comes (stmt (out-Stmt s).number (view_head (out-Stmt s).line) (view_block (out-Stmt s).block)) (view_stmts (drop (i + 1) ss))
-place ss i s lt is =
+pub place : (ss : List Stmt) (i : ℕ) (s : Stmt) (l : Line) → i < length ss → s ≡ get_or ss i s → l ≡ (out-Stmt s).line →
+    view_stmts (drop i ss) ≡ then_comes (stmt (out-Stmt s).number (view_head l) (view_block (out-Stmt s).block)) (view_stmts (drop (i + 1) ss))
+place ss i s l lt is same =
     ap view_stmts (drop-cons ss i s lt ∙ (λ j. sym is j ∷ drop (suc i) ss) ∙ ap (λ n. s ∷ drop n ss) (sym (add-one i)))
-    ∙ λ j. then_comes (view_line s j) (view_stmts (drop (i + 1) ss))
+    ∙ (λ j. then_comes (view_line s j) (view_stmts (drop (i + 1) ss)))
+    ∙ λ j. then_comes (stmt (out-Stmt s).number (view_head (sym same j)) (view_block (out-Stmt s).block)) (view_stmts (drop (i + 1) ss))
 
 module _ (lines rest block : Stmts) (n : ℕ) (head : Head) (is : lines ≡ then_comes (stmt n head block) rest) where
   levelled : IsTrue (are_levelled lines) → (is_levelled_head head && are_levelled block && are_levelled rest) ≡ true

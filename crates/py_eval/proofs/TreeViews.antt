@@ -1,34 +1,38 @@
 -- What trees of the code are, and that their parts are spelled well where they are.
-use Rattle.std.proofs.Common.{◌≡◌, ◌<◌, ◌+◌, ◌∙◌, ap, sym, refl, IsTrue, ◌&&◌, subst, ℕ, suc, List, ◌∷◌, length, drop, get_or, add-one}
+use Rattle.std.proofs.Common.{◌≡◌, ◌<◌, ◌+◌, ◌∙◌, ap, sym, refl, Bool, IsTrue, ◌&&◌, subst, ℕ, suc, List, ◌∷◌, length, drop, get_or, add-one}
 use Rattle.std.proofs.Math.Seq.{drop-cons}
 use Rattle.std.proofs.lemmas.Bool.{and_parts}
 use Rattle.std.specs.Prelude.{nat_lt}
 use denote.Hole.Carrier.{roll}
-use Rattle.py_tree.specs.declared.tree.Expr.{Expr, roll-Expr, fold-roll-Expr}
-use Rattle.py_tree.specs.declared.tree.Expr.TheVariants.{Sum, Attribute, Call}
-use Rattle.py_tree.specs.declared.tree.Expr.TheVariants as variant
-use Rattle.py_tree.specs.declared.tree.Expr.TheOpen.{Expr-F}
-use Rattle.py_tree.specs.Levels.{is_levelled, are_levelled_trees, level}
+use Rattle.py_tree.specs.declared.expr.Argument.{Argument, roll-Argument, fold-roll-Argument}
+use Rattle.py_tree.specs.declared.expr.Argument.TheVariants.{Positional}
+use Rattle.py_tree.specs.declared.expr.Argument.TheOpen.{Argument-F, Expr-F}
+use Rattle.py_tree.specs.declared.expr.Expr.{Expr, roll-Expr, fold-roll-Expr}
+use Rattle.py_tree.specs.declared.expr.Expr.TheVariants.{Add, Attribute, Call}
+use Rattle.py_tree.specs.declared.expr.Expr.TheVariants as variant
+use Rattle.py_tree.specs.ExprView.{argument_step, expr_step, piece_step, link_step, pair_step}
+use Rattle.py_tree.specs.Levels.{is_levelled, are_levelled_arguments, level}
 use Rattle.py_tree.specs.Names.{Name}
-use Rattle.py_tree.specs.Trees.{Tree, Trees, more, name, sum, attribute, call}
-use Rattle.py_tree.specs.View.{view, views, view_step}
+use Rattle.py_tree.specs.Trees.{Tree, Arguments, positional, name, binary, attribute, call}
+use Rattle.py_tree.specs.Trees as pure
+use Rattle.py_tree.specs.View.{view, view_argument, view_arguments}
 
-view_sum : (a b : Expr) → view (Sum a b) ≡ sum (view a) (view b)
+view_sum : (a b : Expr) → view (Add a b) ≡ binary pure.Add (view a) (view b)
 unfolding roll-Expr roll
-view_sum a b = fold-roll-Expr Tree view_step (Expr-F.Sum a b)
+view_sum a b = fold-roll-Expr _ Tree _ _ _ argument_step expr_step piece_step link_step pair_step (Expr-F.Add a b)
 
 -- a sum of the code, whose sides are borrowed
-pub is_sum : (e a b a' b' : Expr) → e ≡ Sum a b → a' ≡ a → b' ≡ b → view e ≡ sum (view a') (view b')
-is_sum e a b a' b' is left right = ap view is ∙ view_sum a b ∙ λ i. sum (view (sym left i)) (view (sym right i))
+pub is_sum : (e a b a' b' : Expr) → e ≡ Add a b → a' ≡ a → b' ≡ b → view e ≡ binary pure.Add (view a') (view b')
+is_sum e a b a' b' is left right = ap view is ∙ view_sum a b ∙ λ i. binary pure.Add (view (sym left i)) (view (sym right i))
 
 -- the right side of a sum that is spelled well
-pub right_levelled : (e a b b' : Expr) → b' ≡ b → e ≡ Sum a b → IsTrue (is_levelled (view e)) → IsTrue (is_levelled (view b'))
+pub right_levelled : (e a b b' : Expr) → b' ≡ b → e ≡ Add a b → IsTrue (is_levelled (view e)) → IsTrue (is_levelled (view b'))
 right_levelled e a b b' right is h =
     (and_parts (is_levelled (view a) && nat_lt 6 (level (view b'))) (is_levelled (view b')) (subst (λ t. IsTrue (is_levelled t)) (is_sum e a b a b' is refl right) h)).1
 
 view_attribute : (a : Expr) (x : Name) → view (Attribute a x) ≡ attribute (view a) x
 unfolding roll-Expr roll
-view_attribute a x = fold-roll-Expr Tree view_step (Expr-F.Attribute a x)
+view_attribute a x = fold-roll-Expr _ Tree _ _ _ argument_step expr_step piece_step link_step pair_step (Expr-F.Attribute a x)
 
 -- an attribute of the code, whose base is borrowed
 pub is_attribute : (e a a' : Expr) (x : Name) → e ≡ Attribute a x → a' ≡ a → view e ≡ attribute (view a') x
@@ -36,30 +40,40 @@ is_attribute e a a' x is base = ap view is ∙ view_attribute a x ∙ λ i. attr
 
 view_name : (x : Name) → view (variant.Name x) ≡ name x
 unfolding roll-Expr roll
-view_name x = fold-roll-Expr Tree view_step (Expr-F.Name x)
+view_name x = fold-roll-Expr _ Tree _ _ _ argument_step expr_step piece_step link_step pair_step (Expr-F.Name x)
 
 -- an attribute of the code, whose base is a name
 pub is_attribute_of_name : (e a a' : Expr) (y y' x : Name) → e ≡ Attribute a x → a' ≡ a → a' ≡ variant.Name y → y' ≡ y → view e ≡ attribute (name y') x
 is_attribute_of_name e a a' y y' x is base named read =
     is_attribute e a a' x is base ∙ λ i. attribute ((ap view named ∙ view_name y ∙ ap name (sym read)) i) x
 
-view_call : (a : Expr) (es : List Expr) → view (Call a es) ≡ call (view a) (views es)
+view_call : (a : Expr) (args : List Argument) (comma : Bool) → view (Call a args comma) ≡ call (view a) (view_arguments args) comma
 unfolding roll-Expr roll
-view_call a es = fold-roll-Expr Tree view_step (Expr-F.Call a es)
+view_call a args comma = fold-roll-Expr _ Tree _ _ _ argument_step expr_step piece_step link_step pair_step (Expr-F.Call a args comma)
 
 -- a call of the code, whose callee and arguments are borrowed
-pub is_call : (e a a' : Expr) (es es' : List Expr) → e ≡ Call a es → a' ≡ a → es' ≡ es → view e ≡ call (view a') (views es')
-is_call e a a' es es' is callee args = ap view is ∙ view_call a es ∙ λ i. call (view (sym callee i)) (views (sym args i))
+pub is_call : (e a a' : Expr) (args args' : List Argument) (comma : Bool) → e ≡ Call a args comma → a' ≡ a → args' ≡ args → view e ≡ call (view a') (view_arguments args') comma
+is_call e a a' args args' comma is callee same = ap view is ∙ view_call a args comma ∙ λ i. call (view (sym callee i)) (view_arguments (sym same i)) comma
 
 -- the arguments of a call that is spelled well
-pub arguments_levelled : (t : Tree) (callee : Tree) (args : Trees) → t ≡ call callee args → IsTrue (is_levelled t) → IsTrue (are_levelled_trees args)
-arguments_levelled t callee args is h =
-    (and_parts (is_levelled callee && nat_lt 9 (level callee)) (are_levelled_trees args) (subst (λ t. IsTrue (is_levelled t)) is h)).1
+pub arguments_levelled : (t : Tree) (callee : Tree) (args : Arguments) (comma : Bool) → t ≡ call callee args comma → IsTrue (is_levelled t) → IsTrue (are_levelled_arguments args)
+arguments_levelled t callee args comma is h =
+    (and_parts (is_levelled callee && nat_lt 9 (level callee)) (are_levelled_arguments args) (subst (λ t. IsTrue (is_levelled t)) is h)).1
 
--- what is left of expressions begins with the next one
-pub place_tree : (es : List Expr) (i : ℕ) (e : Expr) → i < length es → e ≡ get_or es i e → views (drop i es) ≡ more (view e) (views (drop (i + 1) es))
-place_tree es i e lt is = ap views (drop-cons es i e lt ∙ (λ j. sym is j ∷ drop (suc i) es) ∙ ap (λ n. e ∷ drop n es) (sym (add-one i)))
+view_positional : (e : Expr) (rest : Arguments) → view_argument (Positional e) rest ≡ positional (view e) rest
+unfolding roll-Argument roll
+view_positional e rest = ap (λ (put : Arguments → Arguments). put rest) (fold-roll-Argument _ Tree _ _ _ argument_step expr_step piece_step link_step pair_step (Argument-F.Positional e))
 
-module _ (ts rest : Trees) (t : Tree) (is : ts ≡ more t rest) where
-  pub rest_trees : IsTrue (are_levelled_trees ts) → IsTrue (are_levelled_trees rest)
-  rest_trees h = (and_parts (is_levelled t) (are_levelled_trees rest) (subst (λ ts. IsTrue (are_levelled_trees ts)) is h)).1
+-- what is left of arguments begins with the next one
+place_argument : (args : List Argument) (i : ℕ) (a : Argument) → i < length args → a ≡ get_or args i a → view_arguments (drop i args) ≡ view_argument a (view_arguments (drop (i + 1) args))
+place_argument args i a lt is = ap view_arguments (drop-cons args i a lt ∙ (λ j. sym is j ∷ drop (suc i) args) ∙ ap (λ n. a ∷ drop n args) (sym (add-one i)))
+
+module _ (args : List Argument) (i : ℕ) (a : Argument) (lt : i < length args) (is : a ≡ get_or args i a) where
+  pub place_tree : (e e' : Expr) → a ≡ Positional e → e' ≡ e → view_arguments (drop i args) ≡ positional (view e') (view_arguments (drop (i + 1) args))
+  place_tree e e' one same =
+      place_argument args i a lt is ∙ ap (λ (b : Argument). view_argument b (view_arguments (drop (i + 1) args))) one
+      ∙ view_positional e _ ∙ λ j. positional (view (sym same j)) (view_arguments (drop (i + 1) args))
+
+module _ (args rest : Arguments) (t : Tree) (is : args ≡ positional t rest) where
+  pub rest_levelled : IsTrue (are_levelled_arguments args) → IsTrue (are_levelled_arguments rest)
+  rest_levelled h = (and_parts (is_levelled t) (are_levelled_arguments rest) (subst (λ args. IsTrue (are_levelled_arguments args)) is h)).1

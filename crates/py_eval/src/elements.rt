@@ -5,15 +5,15 @@ ghost use Rattle.run_meaning.specs.Meaning as meaning;
 ghost use Rattle.run_meaning.specs.Spending.{spend};
 ghost use Rattle.py_eval.specs.Meets.{Meets, unit};
 ghost use Rattle.py_eval.specs.Shows.{scene_of};
-ghost use Rattle.py_tree.specs.Levels.{are_levelled_trees};
+ghost use Rattle.py_tree.specs.Levels.{are_levelled_arguments};
 ghost use Rattle.py_tree.specs.Names.{is_among};
-ghost use Rattle.py_tree.specs.View.{view, views};
+ghost use Rattle.py_tree.specs.View.{view, view_arguments};
 ghost use Rattle.py_value.specs.Maps.{look_up};
 
 use crate::eval::eval_all;
 use crate::meter::{Halt, charge, halt_at, unknown_form};
 use crate::scene::{Env, Scene};
-use py_tree::{Expr, Spelling, ui_kind};
+use py_tree::{Argument, Expr, Spelling, ui_kind};
 use py_value::{ErrorKind, Kind, Lines, Text, Value, Values, copy, operand_charge};
 use run_meaning::Binding;
 use std::alloc::Global;
@@ -25,16 +25,16 @@ pub fn call_value(
     alloc: Global,
     targets: &[Spelling],
     callee: &Expr,
-    arguments: &[Expr],
+    arguments: &[Argument],
     scene: &Scene,
     env: &Env,
     line: u32,
     left: &mut u64,
 ) -> Result<Value, Halt>
-    requires { IsTrue (are_levelled_trees (views arguments.now)) }
+    requires { IsTrue (are_levelled_arguments (view_arguments arguments.now)) }
     ensures meets { Meets (λ v. v) result left.new
         (spend (calls_for (scene_of scene.now) env.now line targets.now (view callee.now)
-        (views arguments.now)) left.old []) }
+        (view_arguments arguments.now)) left.old []) }
     ensures used { left.new ≤ left.old }
 {
     if let [name] = targets {
@@ -75,16 +75,16 @@ fn element(
     alloc: Global,
     name: &str,
     kind: Kind,
-    arguments: &[Expr],
+    arguments: &[Argument],
     scene: &Scene,
     env: &Env,
     line: u32,
     left: &mut u64,
 ) -> Result<Value, Halt>
-    requires { IsTrue (are_levelled_trees (views arguments.now)) }
+    requires { IsTrue (are_levelled_arguments (view_arguments arguments.now)) }
     ensures meets { Meets (λ v. v) result left.new
         (spend (element_of (scene_of scene.now) env.now line name.now kind
-        (views arguments.now)) left.old []) }
+        (view_arguments arguments.now)) left.old []) }
     ensures used { left.new ≤ left.old }
 {
     charge(left, 1, line)?;

@@ -7,16 +7,16 @@ ghost use Rattle.run_meaning.specs.Spending.{spend};
 ghost use Rattle.run_meaning.specs.Trace.{◌>>=◌ as ◌followed_by◌};
 ghost use Rattle.py_eval.specs.Meets.{Meets};
 ghost use Rattle.py_eval.specs.Shows.{scene_of};
-ghost use Rattle.py_tree.specs.Levels.{is_levelled, are_levelled_trees};
+ghost use Rattle.py_tree.specs.Levels.{is_levelled, are_levelled_arguments};
 ghost use Rattle.py_tree.specs.Trees as trees;
-ghost use Rattle.py_tree.specs.View.{view, views};
+ghost use Rattle.py_tree.specs.View.{view, view_arguments};
 ghost use Rattle.py_value.specs.Maps.{look_up};
 ghost use Rattle.py_value.specs.Whole.{sum_of};
 
 use crate::elements::present_of;
 use crate::meter::{Halt, charge, halt_at, unknown_form};
 use crate::scene::{Env, Scene};
-use py_tree::{Expr, Spelling, literal_int};
+use py_tree::{Argument, Expr, Spelling, literal_int};
 use py_value::{ErrorKind, Value, add, copy};
 use run_meaning::Binding;
 use std::alloc::Global;
@@ -40,7 +40,7 @@ pub fn eval(
     match tree {
         Expr::Literal(token) => Ok(Value::Int(literal_int(token))),
         Expr::Name(name) => Ok(copy(alloc, bound_value(env, name.items(), line)?)?),
-        Expr::Sum(a, b) => {
+        Expr::Add(a, b) => {
             let x = eval(alloc, a.get(), scene, env, line, left)?;
             let y = eval(alloc, b.get(), scene, env, line, left)?;
             sum(&x, &y, line)
@@ -55,27 +55,30 @@ pub fn eval(
             let value = eval(alloc, base.get(), scene, env, line, left)?;
             present_of(alloc, scene, &value, line)
         }
-        Expr::Call(_, _) => Err(unknown_form(line)),
+        _ => Err(unknown_form(line)),
     }
 }
 
-/// The values of expressions on a line, one after the other.
+/// The values of arguments on a line, one after the other. Keywords have no meaning yet.
 pub fn eval_all(
     alloc: Global,
-    trees: &[Expr],
+    arguments: &[Argument],
     scene: &Scene,
     env: &Env,
     line: u32,
     left: &mut u64,
 ) -> Result<Vec<Value>, Halt>
-    requires { IsTrue (are_levelled_trees (views trees.now)) }
+    requires { IsTrue (are_levelled_arguments (view_arguments arguments.now)) }
     ensures meets { Meets (λ vs. vs.items) result left.new
-        (spend (values_after [] (scene_of scene.now) env.now line (views trees.now)) left.old []) }
+        (spend (values_after [] (scene_of scene.now) env.now line (view_arguments arguments.now)) left.old []) }
     ensures used { left.new ≤ left.old }
 {
     let mut values = Vec::new(alloc);
-    for tree in trees {
-        values.push(eval(alloc, tree, scene, env, line, left)?)?;
+    for argument in arguments {
+        let Argument::Positional(tree) = argument else {
+            return Err(unknown_form(line));
+        };
+        values.push(eval(alloc, tree.get(), scene, env, line, left)?)?;
     }
     Ok(values)
 }

@@ -13,7 +13,7 @@ ghost use Rattle.py_value.specs.Maps.{where_name};
 
 use crate::elements::call_value;
 use crate::eval::eval;
-use crate::meter::{Halt, charge};
+use crate::meter::{Halt, charge, unknown_form};
 use crate::scene::{Env, Scene};
 use py_tree::{Expr, Line, Spelling, Stmt};
 use py_value::{ErrorKind, Text, Value};
@@ -38,7 +38,7 @@ pub fn run_lines(
     let mut last = None;
     for stmt in stmts {
         charge(left, 1, stmt.number)?;
-        last = run_line(alloc, &stmt.line, stmt.number, scene, env, left)?;
+        last = run_line(alloc, stmt.line.get(), stmt.number, scene, env, left)?;
     }
     Ok(last)
 }
@@ -60,10 +60,10 @@ fn run_line(
     ensures used { left.new ≤ left.old }
 {
     match line {
-        Line::Value(tree) => Ok(Some(eval(alloc, tree, scene, env, number, left)?)),
+        Line::Value(tree) => Ok(Some(eval(alloc, tree.get(), scene, env, number, left)?)),
         Line::Assign(targets, tree) => {
             let names = targets.items();
-            let value = right_side(alloc, names, tree, scene, env, number, left)?;
+            let value = right_side(alloc, names, tree.get(), scene, env, number, left)?;
             bind_targets(alloc, names, value, number, env)?;
             Ok(None)
         }
@@ -72,6 +72,7 @@ fn run_line(
             env.put(name, Binding::Module)?;
             Ok(None)
         }
+        _ => Err(unknown_form(number)),
     }
 }
 
@@ -92,7 +93,9 @@ fn right_side(
     ensures used { left.new ≤ left.old }
 {
     match tree {
-        Expr::Call(callee, arguments) => {
+        Expr::Call {
+            callee, arguments, ..
+        } => {
             let arguments = arguments.items();
             call_value(
                 alloc,
@@ -105,9 +108,7 @@ fn right_side(
                 left,
             )
         }
-        Expr::Literal(_) | Expr::Name(_) | Expr::Sum(_, _) | Expr::Attribute(_, _) => {
-            eval(alloc, tree, scene, env, line, left)
-        }
+        _ => eval(alloc, tree, scene, env, line, left),
     }
 }
 

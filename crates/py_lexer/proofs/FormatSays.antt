@@ -6,8 +6,8 @@ use Rattle.lexical_form.specs.Tokens.{Spec, aligned, comma}
 use Rattle.lexical_form.specs.Reading.{Read, span}
 use Rattle.lexical_form.specs.Formats.{Format, align_width_form, zero_width, is_align, is_form, is_width, no_width, if_any, is_format, format_spelling, align_of, form_of, width_of, spec_of}
 use Rattle.std.specs.Borrow.{Bor}
-use Rattle.py_tokens.specs.SpecView.{view_spec}
-use Rattle.py_tokens.specs.declared.spec.Spec as code
+use Rattle.py_tree.specs.FieldView.{view_spec}
+use Rattle.py_tree.specs.declared.spec.Spec as code
 use Rattle.py_lexer.specs.FormatParts.{optional_d, some_spec, aligned_says, zeros_says, format_says}
 use Rattle.lexical_form.proofs.Basics.{read_is, not_some}
 use Rattle.lexical_form.proofs.FormatLaws.{format_only, format_found}

@@ -2,7 +2,7 @@
 ghost use Rattle.std.specs.Prelude.{◌≡◌, ◌∷◌, ◌++◌, ℕ, List, IfSome, IsTrue, MatchOption, cond, nat_le, Some, None, option_map};
 ghost use Rattle.std.specs.List.{list_all};
 ghost use Rattle.py_tree.specs.Names as names;
-ghost use Rattle.py_tokens.specs.SpecView.{view_align, view_form, view_spec};
+ghost use Rattle.py_tree.specs.FieldView.{view_align, view_form, view_spec};
 ghost use Rattle.lexical_form.specs.Formats as formats;
 ghost use Rattle.lexical_form.specs.Formats.{Format};
 ghost use Rattle.lexical_form.specs.FormatReader.{format_at};

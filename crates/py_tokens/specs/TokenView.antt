@@ -3,20 +3,13 @@ use Rattle.std.specs.Prelude.{List, map, option_map}
 use Rattle.lexical_form.specs.Lines as lines
 use Rattle.lexical_form.specs.Tokens as pure
 use Rattle.py_tokens.specs.declared.line.LogicalLine.{LogicalLine}
-use Rattle.py_tokens.specs.declared.token.Convert.{Convert}
-use Rattle.py_tokens.specs.declared.token.Convert.TheVariants as convert
-use Rattle.py_tokens.specs.SpecView.{view_spec}
+use Rattle.py_tree.specs.FieldView.{view_convert, view_spec}
 use Rattle.py_tokens.specs.declared.token.Piece.{Piece, fold-Piece}
 use Rattle.py_tokens.specs.declared.token.Piece.TheOpen.{Piece-F, Pieces-F, Token-F, TokenKind-F, Tokens-F}
 use Rattle.py_tokens.specs.declared.token.Pieces.{Pieces, fold-Pieces}
 use Rattle.py_tokens.specs.declared.token.Token.{Token, fold-Token}
 use Rattle.py_tokens.specs.declared.token.TokenKind.{TokenKind, fold-TokenKind}
 use Rattle.py_tokens.specs.declared.token.Tokens.{Tokens, fold-Tokens, out-Tokens}
-
-abbrev pub view_convert : Convert → pure.Convert
-view_convert convert.Plain = pure.as_is
-view_convert convert.Repr = pure.repr
-view_convert convert.Str = pure.str
 
 abbrev pub piece_step : Piece-F pure.Piece pure.Kind pure.Pieces pure.Token pure.Tokens → pure.Piece
 piece_step (Piece-F.Chars cs) = pure.characters cs

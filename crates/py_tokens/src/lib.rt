@@ -3,10 +3,9 @@
 
 mod line;
 mod names;
-mod spec;
 mod token;
 
 pub use line::LogicalLine;
 pub use names::Names;
-pub use spec::{Align, Form, Spec};
-pub use token::{Convert, Piece, Pieces, Token, TokenKind, Tokens};
+pub use py_tree::{Align, Convert, Form, Spec};
+pub use token::{Piece, Pieces, Token, TokenKind, Tokens};

@@ -2,8 +2,7 @@
 ghost use Rattle.std.specs.Prelude.{◌≡◌};
 ghost use Rattle.py_tokens.specs.TokenView.{view_pieces, view_piece_list, view_tokens, view_token_list, token_list};
 
-use crate::spec::Spec;
-use py_tree::{Row, Spelling};
+use py_tree::{Convert, Row, Spec, Spelling};
 
 /// What a token is.
 #[cycle(token)]
@@ -55,17 +54,6 @@ pub enum Piece {
 #[derive(Debug, Drop)]
 pub struct Pieces {
     pub pieces: Row<Piece>,
-}
-
-/// The conversion of a field.
-#[derive(Clone, Copy, Debug, PartialEq, Eq)]
-pub enum Convert {
-    /// None is written.
-    Plain,
-    /// `!r`
-    Repr,
-    /// `!s`
-    Str,
 }
 
 impl Tokens {

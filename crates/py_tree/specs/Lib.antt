@@ -1,4 +1,8 @@
 pub mod Elements
+pub mod ExprView
+pub mod Expressions
+pub mod FieldFormats
+pub mod FieldView
 pub mod Levels
 pub mod Names
 pub mod Numbers

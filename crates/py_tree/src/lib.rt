@@ -7,10 +7,12 @@
 
 mod builtins;
 mod element;
+mod expr;
 mod literal;
 mod names;
 mod numbers;
 mod row;
+mod spec;
 mod spellings;
 mod text_lines;
 mod token;
@@ -18,11 +20,13 @@ mod tree;
 
 pub use builtins::is_builtin;
 pub use element::ui_kind;
+pub use expr::{Argument, Comparison, Expr, Link, Pair, TextPiece};
 pub use literal::literal_int;
 pub use names::is_name;
 pub use numbers::number;
 pub use row::Row;
+pub use spec::{Align, Convert, Form, Spec};
 pub use spellings::{Spelling, Spellings};
 pub use text_lines::{BYTE_LIMIT, whole_line};
 pub use token::{Token, TokenKind};
-pub use tree::{Block, CellCode, Expr, Line, Stmt};
+pub use tree::{Augment, Block, CellCode, Line, Stmt};

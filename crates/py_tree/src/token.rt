@@ -1,4 +1,4 @@
-// Tokens.
+// Tokens of literals.
 use crate::spellings::Spelling;
 
 /// What a token is.
@@ -8,11 +8,13 @@ pub enum TokenKind {
     Name,
     /// A whole number.
     Number,
+    /// A text.
+    Text,
     /// An operator or a delimiter.
     Mark,
 }
 
-/// A token with its spelling (Python language reference, section 2).
+/// The token of a literal, with its spelling (Python language reference, section 2).
 #[derive(Debug, Drop)]
 pub struct Token {
     pub kind: TokenKind,

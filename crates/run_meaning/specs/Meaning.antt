@@ -4,7 +4,7 @@ use Rattle.std.specs.Str.{bytes_eq}
 use Rattle.py_tree.specs.Elements.{ui_kind}
 use Rattle.py_tree.specs.Names.{Name, is_among}
 use Rattle.py_tree.specs.Numbers.{number_of}
-use Rattle.py_tree.specs.Trees.{Tree, literal, name, sum, attribute, call, Trees, none, more, Head, value, assign, import_mo, stmt, Stmts, end, then_comes}
+use Rattle.py_tree.specs.Trees.{Tree, literal, name, binary, Add, attribute, call, Arguments, no_argument, positional, keyword, Head, value, assign, import_mo, stmt, Stmts, end, then_comes}
 use Rattle.py_value.specs.ElementData.{ElementData}
 use Rattle.py_value.specs.Elements.{kind_called, made, at_kept}
 use Rattle.py_value.specs.Faults.{kind_of}
@@ -55,22 +55,27 @@ abbrev pub present_of : Scene → ℕ → Value → Trace Value
 present_of scene line (V.Element e) = if is_among e.name scene.own then Faults RuntimeError line else Gives (value_in e.present)
 present_of scene line v = Faults AttributeError line
 
+-- a form that has no meaning yet, after its own charge
+abbrev pub other_form : ℕ → Trace Value
+other_form line = Charges 1 line (Faults Subset line)
+
 -- An expression on a line. Each node is charged 1 when it begins; the left side of a sum runs before the right side (Python
 -- language reference, 6.16). Of attributes `.value` alone is part of the language, and no call yet.
 abbrev pub value_of : Scene → Env → ℕ → Tree → Trace Value
 value_of scene env line (literal token) = Charges 1 line (Gives (V.Int (pos (number_of token.spelling))))
 value_of scene env line (name x) = Charges 1 line (read line (look_up x env))
-value_of scene env line (sum a b) =
+value_of scene env line (binary Add a b) =
     Charges 1 line (value_of scene env line a >>= λ x. value_of scene env line b >>= λ y. result_at line (sum_of x y))
 value_of scene env line (attribute base x) =
     Charges 1 line (if bytes_eq x (codes "value") then value_of scene env line base >>= present_of scene line else Faults Subset line)
-value_of scene env line (call callee args) = Charges 1 line (Faults Subset line)
+value_of scene env line t = other_form line
 
--- these values, and then those of expressions one after the other
-abbrev pub values_after : List Value → Scene → Env → ℕ → Trees → Trace (List Value)
-values_after vs scene env line none = Gives vs
-values_after vs scene env line (more t ts) =
-    value_of scene env line t >>= λ v. values_after (vs ++ v ∷ []) scene env line ts
+-- These values, and then those of arguments one after the other. Keywords have no meaning yet.
+abbrev pub values_after : List Value → Scene → Env → ℕ → Arguments → Trace (List Value)
+values_after vs scene env line no_argument = Gives vs
+values_after vs scene env line (positional t args) =
+    value_of scene env line t >>= λ v. values_after (vs ++ v ∷ []) scene env line args
+values_after vs scene env line (keyword x t args) = Faults Subset line
 
 -- An element that is made, at the value that is kept for it where there is one.
 abbrev pub element_at : Scene → ℕ → Name → Result ElementData OpFault → Trace Value
@@ -82,27 +87,27 @@ abbrev pub made_at : Scene → ℕ → Name → Kind → List Value → Trace Va
 made_at scene line x kind vs = element_at scene line x (made kind x (record { places = map data_of vs; words = [] }))
 
 -- `NAME = mo.ui.KIND(ARGUMENTS)`: the call's own charge, the module, the arguments, what they are charged for, the element
-abbrev pub element_of : Scene → Env → ℕ → Name → Kind → Trees → Trace Value
+abbrev pub element_of : Scene → Env → ℕ → Name → Kind → Arguments → Trace Value
 element_of scene env line x kind args =
     Charges 1 line (read_module line (look_up (codes "mo") env) >>= λ _. values_after [] scene env line args >>= λ vs.
     Charges (charge_of vs) line (made_at scene line x kind vs))
 
 -- The same where there is such a kind. Where there is none, the call has no meaning, as other forms that aren't part of the language.
-abbrev pub element_by : Scene → Env → ℕ → Name → Option Kind → Trees → Trace Value
-element_by scene env line x None args = Charges 1 line (Faults Subset line)
+abbrev pub element_by : Scene → Env → ℕ → Name → Option Kind → Arguments → Trace Value
+element_by scene env line x None args = other_form line
 element_by scene env line x (Some kind) args = element_of scene env line x kind args
 
-abbrev pub call_of : Scene → Env → ℕ → Name → Option Name → (callee : Tree) → Trees → Trace Value
-call_of scene env line x None callee args = value_of scene env line (call callee args)
-call_of scene env line x (Some kind) callee args = element_by scene env line x (kind_called kind) args
+abbrev pub call_of : Scene → Env → ℕ → Name → Option Name → Arguments → Trace Value
+call_of scene env line x None args = other_form line
+call_of scene env line x (Some kind) args = element_by scene env line x (kind_called kind) args
 
-abbrev pub calls_for : Scene → Env → ℕ → List Name → (callee : Tree) → Trees → Trace Value
-calls_for scene env line (x ∷ []) callee args = call_of scene env line x (ui_kind callee) callee args
-calls_for scene env line targets callee args = value_of scene env line (call callee args)
+abbrev pub calls_for : Scene → Env → ℕ → List Name → (callee : Tree) → Arguments → Trace Value
+calls_for scene env line (x ∷ []) callee args = call_of scene env line x (ui_kind callee) args
+calls_for scene env line targets callee args = other_form line
 
 -- the right side of an assignment
 abbrev pub right_of : Scene → Env → ℕ → List Name → Tree → Trace Value
-right_of scene env line targets (call callee args) = calls_for scene env line targets callee args
+right_of scene env line targets (call callee args comma) = calls_for scene env line targets callee args
 right_of scene env line targets t = value_of scene env line t
 
 -- Why a value isn't taken apart for several targets. Texts, lists, tuples and dictionaries aren't taken apart yet, and Python takes
@@ -124,12 +129,13 @@ pub record Flow : Type 0 where
   pub last : Option Value
   pub env : Env
 
--- a line, after its own charge
+-- A line, after its own charge. Other forms have no meaning yet.
 abbrev pub head_of : Scene → Env → ℕ → Head → Trace Flow
 head_of scene env line (value t) = value_of scene env line t >>= λ v. Gives (record { last = Some v; env = env })
 head_of scene env line (assign targets t) =
     right_of scene env line targets t >>= λ v. bind line targets v env >>= λ after. Gives (record { last = None; env = after })
 head_of scene env line import_mo = Gives (record { last = None; env = put (codes "mo") Module env })
+head_of scene env line h = Faults Subset line
 
 -- Lines one after the other, each charged 1 when it begins. No form of a line has a block yet.
 abbrev pub lines_of : Scene → Stmts → Flow → Trace Flow

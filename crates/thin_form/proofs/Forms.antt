@@ -1,5 +1,5 @@
 -- What the tests of terms and sliders tell of a tree.
-use Rattle.std.proofs.Common.{◌≡◌, ℕ, true, nat_le, List, refl, sym, ap, ◌∙◌}
+use Rattle.std.proofs.Common.{◌≡◌, ℕ, true, false, nat_le, List, refl, sym, ap, ◌∙◌}
 use Rattle.std.specs.Prelude.{codes}
 use Rattle.std.proofs.lemmas.Bool.{and_parts, and_from}
 use Rattle.thin_form.specs.Sliders.{Bounds, maker, slider, are_bounds}
@@ -11,7 +11,7 @@ use Rattle.py_tree.proofs.NamesOf.{name_of}
 use Rattle.py_tree.specs.Levels.{is_literal}
 use Rattle.py_tree.specs.Names.{Name, is_name}
 use Rattle.py_tree.specs.Numbers.{is_number, number_of}
-use Rattle.py_tree.specs.Trees.{Tree, literal, name, attribute, call, Trees, none, more}
+use Rattle.py_tree.specs.Trees.{Tree, literal, name, attribute, call, Arguments, no_argument, positional}
 use Rattle.py_tree.specs.declared.token.TokenKind.{TokenKind}
 use Rattle.py_tree.specs.declared.token.TokenKind.TheVariants as kind
 
@@ -32,6 +32,7 @@ value_form es t x h = absurd (cc)
 literal_form : (k : TokenKind) (w : List ℕ) → is_literal k w ≡ true → (literal (record { kind = k; spelling = w }) ≡ numeral w) × (is_number w ≡ true)
 literal_form kind.Name w h = absurd (cc)
 literal_form kind.Number w h = (refl, h)
+literal_form kind.Text w h = absurd (cc)
 literal_form kind.Mark w h = absurd (cc)
 
 -- a number
@@ -47,14 +48,14 @@ number_form (literal token) h =
 number_form t h = absurd (cc)
 
 -- two numbers in order
-record AreBounds (ts : Trees) : Type 0 where
+record AreBounds (args : Arguments) : Type 0 where
   bounds : Bounds
-  is : ts ≡ more (numeral bounds.low) (more (numeral bounds.high) none)
+  is : args ≡ positional (numeral bounds.low) (positional (numeral bounds.high) no_argument)
   ordered : are_bounds bounds.low bounds.high ≡ true
 
-bounds_form : (ts : Trees) → thin.are_bounds ts ≡ true → AreBounds ts
+bounds_form : (args : Arguments) → thin.are_bounds args ≡ true → AreBounds args
 unfolding are_bounds
-bounds_form (more a (more b none)) h =
+bounds_form (positional a (positional b no_argument)) h =
     let s = and_parts _ _ h in
     let both = and_parts _ _ s.0 in
     let low = number_form a both.0 in
@@ -63,10 +64,10 @@ bounds_form (more a (more b none)) h =
     let end = ap (λ t. nat_le (number_of low.spelling) (thin.number_in t)) high.is in
     record {
       bounds = record { low = low.spelling; high = high.spelling };
-      is = ap (λ t. more t (more b none)) low.is ∙ ap (λ t. more (numeral low.spelling) (more t none)) high.is;
+      is = ap (λ t. positional t (positional b no_argument)) low.is ∙ ap (λ t. positional (numeral low.spelling) (positional t no_argument)) high.is;
       ordered = and_from _ _ (and_from _ _ low.number high.number) (sym (order ∙ end) ∙ s.1);
     }
-bounds_form ts h = absurd (cc)
+bounds_form args h = absurd (cc)
 
 mo_form : (t : Tree) → is_mo t ≡ true → t ≡ name (codes "mo")
 mo_form (name y) h = ap name (name_of y (codes "mo") h)
@@ -92,10 +93,10 @@ pub record IsSlider (t : Tree) : Type 0 where
   pub ordered : are_bounds bounds.low bounds.high ≡ true
 
 pub slider_form : (t : Tree) → makes_slider t ≡ true → IsSlider t
-slider_form (call f args) h =
+slider_form (call f args false) h =
     let s = and_parts _ _ h in
     let two = bounds_form args s.1 in
-    record { bounds = two.bounds; is = ap (λ t. call t args) (maker_form f s.0) ∙ ap (call maker) two.is; ordered = two.ordered }
+    record { bounds = two.bounds; is = ap (λ t. call t args false) (maker_form f s.0) ∙ ap (λ args. call maker args false) two.is; ordered = two.ordered }
 slider_form t h = absurd (cc)
 
 -- and back: bounds in order make a slider

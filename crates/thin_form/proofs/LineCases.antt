@@ -42,11 +42,11 @@ assigned es (x ∷ y ∷ xs) t h = absurd (cc)
 
 -- a line with a call assigns a slider, and with anything else a sum
 sum_is_no_call : (es : Elements) (t : Tree) → is_sum es t ≡ true → is_call t ≡ makes_slider t
-sum_is_no_call es (call f args) h = absurd (cc)
+sum_is_no_call es (call f args comma) h = absurd (cc)
 sum_is_no_call es t h = refl
 
 slider_is_call : (t : Tree) → makes_slider t ≡ true → is_call t ≡ makes_slider t
-slider_is_call (call f args) h = sym h
+slider_is_call (call f args comma) h = sym h
 slider_is_call t h = absurd (cc)
 
 kind_is_call : (es : Elements) (x : Name) (t : Tree) → ToSum es x t ⊎ ToSlider es x t → is_call t ≡ makes_slider t

@@ -60,6 +60,7 @@ line_only es (assign targets t) h =
     line_split es (assign targets t) h ∙ ap (λ xs. head_spellings (assign xs t)) a.only in
     assigned_read es text a.target t a.named (kind_read es a.target t a.kind) split ∙ ap (λ xs. Some (assign xs t)) (sym a.only)
 line_only es import_mo h = import_read es h
+line_only es head h = absurd (cc)
 
 pub line_is_text : (es : Elements) (h : Head) → is_line es h ≡ true → IsUtf8 (head_text h)
 line_is_text es h e = subst IsUtf8 (head_joined h) (IsUtf8-from_ascii _ (join_ascii (head_spellings h) (line_words es h e)))

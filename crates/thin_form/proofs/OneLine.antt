@@ -16,7 +16,7 @@ use Rattle.thin_form.specs.Words.{words, two_words, target, without_back}
 use Rattle.form_meaning.specs.Thin.{Elements, is_line, head_text, line_text, last_line}
 use Rattle.py_tree.specs.Names.{is_name}
 use Rattle.py_tree.specs.Numbers.{is_number}
-use Rattle.py_tree.specs.Trees.{Tree, name, sum, Head, value, assign}
+use Rattle.py_tree.specs.Trees.{Tree, name, binary, Add, Head, value, assign}
 use Rattle.thin_form.proofs.Cuts.{is_word_byte, AreWords, list_all-weaker}
 use Rattle.thin_form.proofs.LineFound.{two_found}
 use Rattle.thin_form.proofs.LineOnly.{line_only}
@@ -51,10 +51,10 @@ more_alike : (es fs : Elements) (t : Tree) (ws : List (List ℕ)) (u v : Tree) �
 more_alike es fs t [] u v p q = sym (same_Some _ _ p) ∙ same_Some _ _ q
 more_alike es fs t (mark ∷ []) u v p q = absurd (cc)
 more_alike es fs t (mark ∷ word ∷ rest) u v p q =
-    let a = bind_ok (read_term es word) (λ x. read_more es (sum t x) rest) u (cond_ok _ _ u p).1 in
-    let b = bind_ok (read_term fs word) (λ x. read_more fs (sum t x) rest) v (cond_ok _ _ v q).1 in
+    let a = bind_ok (read_term es word) (λ x. read_more es (binary Add t x) rest) u (cond_ok _ _ u p).1 in
+    let b = bind_ok (read_term fs word) (λ x. read_more fs (binary Add t x) rest) v (cond_ok _ _ v q).1 in
     let same = term_alike es fs word (is_name word) (is_number word) a.0 b.0 a.1 b.1 in
-    more_alike es fs (sum t a.0) rest u v a.2 (subst (λ x. read_more fs (sum t x) rest ≡ Some v) (sym same) b.2)
+    more_alike es fs (binary Add t a.0) rest u v a.2 (subst (λ x. read_more fs (binary Add t x) rest ≡ Some v) (sym same) b.2)
 
 sum_alike : (es fs : Elements) (ws : List (List ℕ)) (t u : Tree) → read_sum es ws ≡ Some t → read_sum fs ws ≡ Some u → t ≡ u
 sum_alike es fs [] t u p q = absurd (cc)

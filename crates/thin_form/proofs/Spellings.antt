@@ -1,32 +1,33 @@
 -- The words of trees and lines.
-use Rattle.std.proofs.Common.{◌≡◌, ℕ, ◌<◌, List, [], ◌∷◌, ◌++◌, length, refl, sym, ap, ◌∙◌, append_assoc, length-append, arith}
+use Rattle.std.proofs.Common.{◌≡◌, ℕ, ◌<◌, false, List, [], ◌∷◌, ◌++◌, length, refl, sym, ap, ◌∙◌, append_assoc, length-append, arith}
 use Rattle.std.specs.Prelude.{codes}
 use Rattle.std.specs.List.{join_with_byte}
 use Rattle.form_meaning.specs.Thin.{tree_text, names_text, head_text}
-use Rattle.py_tree.specs.Trees.{Tree, sum, call, Trees, none, more, Head, value, assign, import_mo}
+use Rattle.py_tree.specs.Trees.{Tree, binary, Add, call, Arguments, no_argument, positional, Head, value, assign, import_mo}
 
 -- the words of a call, of which one with two arguments has two
-abbrev pub call_words : Tree → Trees → List (List ℕ)
-call_words f (more a (more b none)) = (tree_text f ++ codes "(" ++ tree_text a ++ codes ",") ∷ (tree_text b ++ codes ")") ∷ []
-call_words f args = tree_text (call f args) ∷ []
+abbrev pub call_words : Tree → Arguments → List (List ℕ)
+call_words f (positional a (positional b no_argument)) = (tree_text f ++ codes "(" ++ tree_text a ++ codes ",") ∷ (tree_text b ++ codes ")") ∷ []
+call_words f args = tree_text (call f args false) ∷ []
 
 abbrev pub spellings : Tree → List (List ℕ)
-spellings (sum a b) = spellings a ++ (codes "+" ∷ tree_text b ∷ [])
-spellings (call f args) = call_words f args
+spellings (binary Add a b) = spellings a ++ (codes "+" ∷ tree_text b ∷ [])
+spellings (call f args comma) = call_words f args
 spellings t = tree_text t ∷ []
 
 abbrev pub head_spellings : Head → List (List ℕ)
 head_spellings (value t) = spellings t
 head_spellings (assign targets t) = names_text targets ∷ codes "=" ∷ spellings t
 head_spellings import_mo = codes "import" ∷ codes "marimo" ∷ codes "as" ∷ codes "mo" ∷ []
+head_spellings h = [] ∷ []
 
-some_call_words : (f : Tree) (args : Trees) → 0 < length (call_words f args)
-some_call_words f (more a (more b none)) = omega arith
+some_call_words : (f : Tree) (args : Arguments) → 0 < length (call_words f args)
+some_call_words f (positional a (positional b no_argument)) = omega arith
 some_call_words f args = omega arith
 
 pub some_words : (t : Tree) → 0 < length (spellings t)
-some_words (sum a b) = rw length-append (omega arith)
-some_words (call f args) = some_call_words f args
+some_words (binary Add a b) = rw length-append (omega arith)
+some_words (call f args comma) = some_call_words f args
 some_words t = omega arith
 
 -- words with one term more
@@ -41,14 +42,14 @@ pub join_assigned : (x : List ℕ) (ws : List (List ℕ)) → 0 < length ws → 
 join_assigned x [] l = absurd (omega arith)
 join_assigned x (w ∷ ws) l = sym (append_assoc x (codes " = ") (join_with_byte 32 (w ∷ ws)))
 
-call_joined : (f : Tree) (args : Trees) → join_with_byte 32 (call_words f args) ≡ tree_text (call f args)
-call_joined f (more a (more b none)) = simp append_assoc
+call_joined : (f : Tree) (args : Arguments) → join_with_byte 32 (call_words f args) ≡ tree_text (call f args false)
+call_joined f (positional a (positional b no_argument)) = simp append_assoc
 call_joined f args = refl
 
 -- the words with one space between them are the text
 pub tree_joined : (t : Tree) → join_with_byte 32 (spellings t) ≡ tree_text t
-tree_joined (sum a b) = join_term (spellings a) (tree_text b) (some_words a) ∙ ap (λ t. t ++ codes " + " ++ tree_text b) (tree_joined a)
-tree_joined (call f args) = call_joined f args
+tree_joined (binary Add a b) = join_term (spellings a) (tree_text b) (some_words a) ∙ ap (λ t. t ++ codes " + " ++ tree_text b) (tree_joined a)
+tree_joined (call f args comma) = call_joined f args
 tree_joined t = refl
 
 pub head_joined : (h : Head) → join_with_byte 32 (head_spellings h) ≡ head_text h

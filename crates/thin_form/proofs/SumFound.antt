@@ -9,7 +9,7 @@ use Rattle.thin_form.specs.Words.{without_back}
 use Rattle.form_meaning.specs.Thin.{Elements, is_term, is_chain, is_sum, terms, tree_text}
 use Rattle.py_tree.specs.Names.{is_name}
 use Rattle.py_tree.specs.Numbers.{is_number}
-use Rattle.py_tree.specs.Trees.{Tree, name, sum, call}
+use Rattle.py_tree.specs.Trees.{Tree, name, binary, Add, call}
 use Rattle.thin_form.proofs.Ends.{back_on}
 use Rattle.thin_form.proofs.Options.{bind_ok, cond_ok}
 use Rattle.thin_form.proofs.Spellings.{spellings}
@@ -21,12 +21,12 @@ pub record TermOf (es : Elements) (word : List ℕ) (t : Tree) : Type 0 where
   pub spelled : spellings t ≡ word ∷ []
 
 pub term_is_chain : (es : Elements) (t : Tree) → is_term es t ≡ true → is_chain es t ≡ true
-term_is_chain es (sum a b) h = absurd (cc)
+term_is_chain es (binary Add a b) h = absurd (cc)
 term_is_chain es t h = h
 
 pub spellings-term : (es : Elements) (t : Tree) → is_term es t ≡ true → spellings t ≡ tree_text t ∷ []
-spellings-term es (sum a b) h = absurd (cc)
-spellings-term es (call f args) h = absurd (cc)
+spellings-term es (binary Add a b) h = absurd (cc)
+spellings-term es (call f args comma) h = absurd (cc)
 spellings-term es t h = refl
 
 value_found : (es : Elements) (word : List ℕ) (t : Tree) → read_value es word ≡ Some t → TermOf es word t
@@ -56,7 +56,7 @@ pub record SumOf (es : Elements) (ws : List (List ℕ)) (t : Tree) : Type 0 wher
   pub spelled : spellings t ≡ ws
 
 -- a sum with one more term, and what follows it
-pub spellings-more : (a b : Tree) (rest : List (List ℕ)) → spellings (sum a b) ++ rest ≡ spellings a ++ (codes "+" ∷ tree_text b ∷ rest)
+pub spellings-more : (a b : Tree) (rest : List (List ℕ)) → spellings (binary Add a b) ++ rest ≡ spellings a ++ (codes "+" ∷ tree_text b ∷ rest)
 spellings-more a b rest = append_assoc (spellings a) (codes "+" ∷ tree_text b ∷ []) rest
 
 more_found : (es : Elements) (t : Tree) (ws : List (List ℕ)) (u : Tree) → is_chain es t ≡ true → terms t ≤ 32 → read_more es t ws ≡ Some u → SumOf es (spellings t ++ ws) u
@@ -66,13 +66,13 @@ more_found es t (mark ∷ []) u c n e = absurd (cc)
 more_found es t (mark ∷ word ∷ rest) u c n e =
     let taken = cond_ok _ _ u e in
     let tests = and_parts _ _ taken.0 in
-    let read = bind_ok (read_term es word) (λ v. read_more es (sum t v) rest) u taken.1 in
+    let read = bind_ok (read_term es word) (λ v. read_more es (binary Add t v) rest) u taken.1 in
     let term = term_found es word read.0 read.1 in
     let plus = (bytes_eq-Decides mark (codes "+")).0 tests.0 in
     let below = ltb-true _ _ tests.1 in
-    let whole = more_found es (sum t read.0) rest u (and_from _ _ c term.is) (omega arith) read.2 in
+    let whole = more_found es (binary Add t read.0) rest u (and_from _ _ c term.is) (omega arith) read.2 in
     let word_is = sym (spellings-term es read.0 term.is) ∙ term.spelled in
-    let same : spellings (sum t read.0) ++ rest ≡ spellings t ++ (mark ∷ word ∷ rest) =
+    let same : spellings (binary Add t read.0) ++ rest ≡ spellings t ++ (mark ∷ word ∷ rest) =
     spellings-more t read.0 rest ∙ ap (λ p. spellings t ++ p) (cc) in
     subst (λ ws. SumOf es ws u) same whole
 

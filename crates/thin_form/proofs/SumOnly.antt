@@ -10,7 +10,7 @@ use Rattle.thin_form.specs.Words.{target}
 use Rattle.form_meaning.specs.Thin.{Elements, is_term, is_chain, is_sum, terms, tree_text}
 use Rattle.py_tree.specs.Levels.{is_literal}
 use Rattle.py_tree.specs.Numbers.{is_number}
-use Rattle.py_tree.specs.Trees.{Tree, literal, name, sum, attribute, call}
+use Rattle.py_tree.specs.Trees.{Tree, literal, name, binary, Add, attribute, call}
 use Rattle.py_tree.specs.declared.token.TokenKind.{TokenKind}
 use Rattle.py_tree.specs.declared.token.TokenKind.TheVariants as kind
 use Rattle.thin_form.proofs.Ends.{back_off}
@@ -48,6 +48,7 @@ value_not_number (c ∷ d ∷ ds) h = rw (lower_not_digit c (and_parts _ _ h).0)
 literal_read : (es : Elements) (k : TokenKind) (w : List ℕ) → is_literal k w ≡ true → read_term es w ≡ Some (literal (record { kind = k; spelling = w }))
 literal_read es kind.Name w h = absurd (cc)
 literal_read es kind.Number w h = rw (number_not_name w h, h) refl
+literal_read es kind.Text w h = absurd (cc)
 literal_read es kind.Mark w h = absurd (cc)
 
 value_read : (es : Elements) (x : Name) → is_name x ≡ true → es.is_slider x ≡ true → read_term es (x ++ codes ".value") ≡ Some (value_of x)
@@ -66,7 +67,7 @@ term_read es (attribute base x) h =
 term_read es t h = absurd (cc)
 
 -- one more term
-more_read : (es : Elements) (t u : Tree) (word : List ℕ) (rest : List (List ℕ)) → terms t < 32 → read_term es word ≡ Some u → read_more es t (codes "+" ∷ word ∷ rest) ≡ read_more es (sum t u) rest
+more_read : (es : Elements) (t u : Tree) (word : List ℕ) (rest : List (List ℕ)) → terms t < 32 → read_term es word ≡ Some u → read_more es t (codes "+" ∷ word ∷ rest) ≡ read_more es (binary Add t u) rest
 more_read es t u word rest n e = rw (lt-ltb (terms t) 32 n, e) refl
 
 first_read : (es : Elements) (t : Tree) (rest : List (List ℕ)) → is_term es t ≡ true → read_sum es (tree_text t ∷ rest) ≡ read_more es t rest
@@ -74,11 +75,11 @@ first_read es t rest h = rw (term_read es t h) refl
 
 -- reading a chain comes to what follows it
 chain_read : (es : Elements) (t : Tree) (rest : List (List ℕ)) → is_chain es t ≡ true → terms t ≤ 32 → read_sum es (spellings t ++ rest) ≡ read_more es t rest
-chain_read es (sum a b) rest c n =
+chain_read es (binary Add a b) rest c n =
     let s = and_parts _ _ c in
     ap (read_sum es) (spellings-more a b rest)
     ∙ (chain_read es a (codes "+" ∷ tree_text b ∷ rest) s.0 (omega arith) ∙ more_read es a b (tree_text b) rest (omega arith) (term_read es b s.1))
-chain_read es (call f args) rest c n = absurd (cc)
+chain_read es (call f args comma) rest c n = absurd (cc)
 chain_read es t rest c n = first_read es t rest c
 
 pub sum_read : (es : Elements) (t : Tree) → is_sum es t ≡ true → read_sum es (spellings t) ≡ Some t
@@ -88,13 +89,13 @@ sum_read es t h =
 
 -- a chain with a `+` behind it is no assignment
 no_target : (es : Elements) (t : Tree) (rest : List (List ℕ)) → is_chain es t ≡ true → target (spellings t ++ (codes "+" ∷ rest)) ≡ None
-no_target es (sum a b) rest c =
+no_target es (binary Add a b) rest c =
     ap target (spellings-more a b (codes "+" ∷ rest)) ∙ no_target es a (tree_text b ∷ codes "+" ∷ rest) (and_parts _ _ c).0
-no_target es (call f args) rest c = absurd (cc)
+no_target es (call f args comma) rest c = absurd (cc)
 no_target es t [] c = refl
 no_target es t (next ∷ rest) c = refl
 
 pub sum_no_target : (es : Elements) (t : Tree) → is_chain es t ≡ true → target (spellings t) ≡ None
-sum_no_target es (sum a b) c = no_target es a (tree_text b ∷ []) (and_parts _ _ c).0
-sum_no_target es (call f args) c = absurd (cc)
+sum_no_target es (binary Add a b) c = no_target es a (tree_text b ∷ []) (and_parts _ _ c).0
+sum_no_target es (call f args comma) c = absurd (cc)
 sum_no_target es t c = refl

@@ -10,7 +10,7 @@ use Rattle.form_meaning.specs.Thin.{Elements, is_term, is_chain, makes_slider, i
 use Rattle.py_tree.specs.Levels.{is_literal}
 use Rattle.py_tree.specs.Names.{Name, is_digit, is_lower, is_plain_name, is_name}
 use Rattle.py_tree.specs.Numbers.{is_number}
-use Rattle.py_tree.specs.Trees.{Tree, literal, name, sum, attribute, call, Head, value, assign, import_mo}
+use Rattle.py_tree.specs.Trees.{Tree, literal, name, binary, Add, attribute, call, Head, value, assign, import_mo}
 use Rattle.py_tree.specs.declared.token.TokenKind.{TokenKind}
 use Rattle.py_tree.specs.declared.token.TokenKind.TheVariants as kind
 use Rattle.thin_form.proofs.Cuts.{is_word_byte, AreWords, list_all-weaker}
@@ -45,6 +45,7 @@ number_is_word (c ∷ d ∷ ds) h = list_all-weaker is_digit is_word_byte digit_
 literal_is_word : (k : TokenKind) (w : List ℕ) → is_literal k w ≡ true → IsWord w
 literal_is_word kind.Name w h = absurd (cc)
 literal_is_word kind.Number w h = number_is_word w h
+literal_is_word kind.Text w h = absurd (cc)
 literal_is_word kind.Mark w h = absurd (cc)
 
 both : (xs ys : List ℕ) → IsWord xs → IsWord ys → IsWord (xs ++ ys)
@@ -60,11 +61,11 @@ term_is_word es (attribute base x) h =
 term_is_word es t h = absurd (cc)
 
 chain_words : (es : Elements) (t : Tree) → is_chain es t ≡ true → AreWords (spellings t)
-chain_words es (sum a b) h =
+chain_words es (binary Add a b) h =
     let s = and_parts _ _ h in
     list_all-append (λ w. list_all is_word_byte w) (spellings a) (codes "+" ∷ tree_text b ∷ [])
     ∙ and_from _ _ (chain_words es a s.0) (and_from _ _ (term_is_word es b s.1) refl)
-chain_words es (call f args) h = absurd (cc)
+chain_words es (call f args comma) h = absurd (cc)
 chain_words es t h = and_from _ _ (term_is_word es t h) refl
 
 bounds_words : (b : Bounds) → are_bounds b.low b.high ≡ true → AreWords (spellings (slider b))
@@ -95,3 +96,4 @@ line_words es (assign targets t) h =
     let a = assigned es targets t h in
     assigned_words a.target targets t a.only a.named (kind_words es a.target t a.kind)
 line_words es import_mo h = refl
+line_words es head h = absurd (cc)

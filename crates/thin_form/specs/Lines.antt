@@ -25,5 +25,5 @@ read_line es text =
 
 -- the tree is a call
 abbrev pub is_call : Tree → Bool
-is_call (call callee args) = true
+is_call (call callee args comma) = true
 is_call t = false

@@ -1,11 +1,11 @@
 -- The slider that words spell.
-use Rattle.std.specs.Prelude.{ℕ, Bool, if◌then◌else◌, ◌&&◌, nat_le, List, Option, None, Some, codes}
+use Rattle.std.specs.Prelude.{ℕ, Bool, false, if◌then◌else◌, ◌&&◌, nat_le, List, Option, None, Some, codes}
 use Rattle.thin_form.specs.Choices.{◌>>=◌}
 use Rattle.thin_form.specs.Sums.{numeral}
 use Rattle.thin_form.specs.Words.{words, two_words, target, without_front, without_back}
 use Rattle.py_tree.specs.Names.{Name, is_name}
 use Rattle.py_tree.specs.Numbers.{is_number, number_of}
-use Rattle.py_tree.specs.Trees.{Tree, name, attribute, call, none, more}
+use Rattle.py_tree.specs.Trees.{Tree, name, attribute, call, no_argument, positional}
 
 -- the spellings of a slider's bounds
 pub record Bounds : Type 0 where
@@ -18,7 +18,7 @@ maker = attribute (attribute (name (codes "mo")) (codes "ui")) (codes "slider")
 
 -- `mo.ui.slider(LOW, HIGH)`
 abbrev pub slider : Bounds → Tree
-slider b = call maker (more (numeral b.low) (more (numeral b.high) none))
+slider b = call maker (positional (numeral b.low) (positional (numeral b.high) no_argument)) false
 
 -- two numbers, of which the first isn't the greater
 unfoldable pub are_bounds : (low high : List ℕ) → Bool

@@ -6,7 +6,7 @@ use Rattle.thin_form.specs.Words.{without_back}
 use Rattle.form_meaning.specs.Thin.{Elements, terms}
 use Rattle.py_tree.specs.Names.{Name, is_name}
 use Rattle.py_tree.specs.Numbers.{is_number}
-use Rattle.py_tree.specs.Trees.{Tree, literal, name, sum, attribute}
+use Rattle.py_tree.specs.Trees.{Tree, literal, name, binary, Add, attribute}
 use Rattle.py_tree.specs.declared.token.TokenKind.TheVariants as kind
 
 abbrev pub numeral : List ℕ → Tree
@@ -30,12 +30,16 @@ next_term [] = None
 next_term (mark ∷ []) = None
 next_term (mark ∷ word ∷ rest) = if bytes_eq mark (codes "+") then Some (word, rest) else None
 
+-- the tree with the term that follows it, and the words after that
+abbrev pub one_more : Elements → Tree → List (List ℕ) → Option (Tree × List (List ℕ))
+one_more es t line = next_term line >>= λ p. read_term es p.0 >>= λ u. Some (binary Add t u, p.1)
+
 -- the tree with the terms that follow it
 abbrev pub read_more : Elements → Tree → List (List ℕ) → Option Tree
 read_more es t [] = Some t
 read_more es t (mark ∷ []) = None
 read_more es t (mark ∷ word ∷ rest) =
-    if bytes_eq mark (codes "+") && nat_lt (terms t) 32 then (read_term es word >>= λ u. read_more es (sum t u) rest) else None
+    if bytes_eq mark (codes "+") && nat_lt (terms t) 32 then (read_term es word >>= λ u. read_more es (binary Add t u) rest) else None
 
 abbrev pub read_sum : Elements → List (List ℕ) → Option Tree
 read_sum es [] = None

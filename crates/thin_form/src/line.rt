@@ -11,10 +11,11 @@ ghost use Rattle.py_tree.specs.View.{view, view_head};
 use crate::slider_names::SliderNames;
 use crate::sliders::read_bounds;
 use crate::sums::read_sum;
-use crate::trees::{slider, spelling};
+use crate::trees::{assignment, import, slider, spelling, value_line};
 use crate::words::target;
-use py_tree::{Expr, Line, Spellings, is_name};
+use py_tree::{Expr, Line, is_name};
 use py_value::Memory;
+use sqlite_items::Boxed;
 use std::alloc::Global;
 use std::str;
 
@@ -24,7 +25,7 @@ pub fn read_body_line(
     alloc: Global,
     text: &[u8],
     elements: &SliderNames,
-) -> Result<Option<Line>, Memory>
+) -> Result<Option<Boxed<Line>>, Memory>
     ensures found { IfOk result
         (λ o. IfSome o
         (λ l. IsTrue (is_line (as_elements elements.now) (view_head l))
@@ -44,13 +45,17 @@ pub fn stands_alone(line: &Line) -> bool
         → result ≡ thin.stands_alone (view_head line.now) }
 {
     match line {
-        Line::Assign(_, tree) => is_call(tree),
+        Line::Assign(_, tree) => is_call(tree.get()),
         Line::ImportMo => true,
         _ => false,
     }
 }
 
-fn read_line(alloc: Global, text: &str, elements: &SliderNames) -> Result<Option<Line>, Memory>
+fn read_line(
+    alloc: Global,
+    text: &str,
+    elements: &SliderNames,
+) -> Result<Option<Boxed<Line>>, Memory>
     ensures { IfOk result
         (λ o. option_map view_head o ≡ reading.read_line (as_elements elements.now) text.now) }
 {
@@ -58,8 +63,8 @@ fn read_line(alloc: Global, text: &str, elements: &SliderNames) -> Result<Option
         return read_assignment(alloc, name, value, elements);
     }
     match read_sum(alloc, text, elements)? {
-        Some(tree) => Ok(Some(Line::Value(tree))),
-        None => Ok(read_import(text, elements)),
+        Some(tree) => Ok(Some(value_line(alloc, tree)?)),
+        None => read_import(alloc, text, elements),
     }
 }
 
@@ -68,7 +73,7 @@ fn read_assignment(
     name: &str,
     value: &str,
     elements: &SliderNames,
-) -> Result<Option<Line>, Memory>
+) -> Result<Option<Boxed<Line>>, Memory>
     ensures { IfOk result
         (λ o. option_map view_head o
         ≡ reading.read_assignment (as_elements elements.now) name.now (words value.now)) }
@@ -79,9 +84,8 @@ fn read_assignment(
     let Some(value) = read_assigned(alloc, name, value, elements)? else {
         return Ok(None);
     };
-    let mut targets = Vec::new(alloc);
-    targets.push(spelling(alloc, name)?)?;
-    Ok(Some(Line::Assign(Spellings::of(targets), value)))
+    let target = spelling(alloc, name)?;
+    Ok(Some(assignment(alloc, target, value)?))
 }
 
 // What the name is assigned: a slider where the name is that of one, else a sum.
@@ -90,7 +94,7 @@ fn read_assigned(
     name: &str,
     value: &str,
     elements: &SliderNames,
-) -> Result<Option<Expr>, Memory>
+) -> Result<Option<Boxed<Expr>>, Memory>
     ensures { IfOk result
         (λ o. option_map view o
         ≡ reading.read_assigned (as_elements elements.now) name.now (words value.now)) }
@@ -108,19 +112,23 @@ fn read_assigned(
 }
 
 // The import of `mo`, in a file that imports it.
-fn read_import(text: &str, elements: &SliderNames) -> Option<Line>
-    ensures { option_map view_head result
-        ≡ reading.read_import (as_elements elements.now) text.now }
+fn read_import(
+    alloc: Global,
+    text: &str,
+    elements: &SliderNames,
+) -> Result<Option<Boxed<Line>>, Memory>
+    ensures { IfOk result
+        (λ o. option_map view_head o ≡ reading.read_import (as_elements elements.now) text.now) }
 {
     if text == "import marimo as mo" && elements.imported() {
-        Some(Line::ImportMo)
+        Ok(Some(import(alloc)?))
     } else {
-        None
+        Ok(None)
     }
 }
 
 fn is_call(tree: &Expr) -> bool
     ensures { result ≡ reading.is_call (view tree.now) }
 {
-    matches!(tree, Expr::Call(_, _))
+    matches!(tree, Expr::Call { .. })
 }

@@ -15,6 +15,7 @@ use crate::slider_names::SliderNames;
 use crate::thin_file::ThinFault;
 use py_tree::{Block, Line, Stmt, whole_line};
 use py_value::Memory;
+use sqlite_items::Boxed;
 use std::alloc::Global;
 use std::marker::Model;
 
@@ -147,7 +148,7 @@ fn placed_line(
     rest: &[u8],
     elements: &SliderNames,
     first: bool,
-) -> Result<Option<Line>, Memory>
+) -> Result<Option<Boxed<Line>>, Memory>
     ensures found { IfOk result
         (λ o. IfSome o
         (λ l. IsTrue (is_line (as_elements elements.now) (view_head l))
@@ -163,7 +164,7 @@ fn placed_line(
     let Some(line) = read_body_line(alloc, text, elements)? else {
         return Ok(None);
     };
-    if stands_alone(&line) && !is_only_line(first, rest) {
+    if stands_alone(line.get()) && !is_only_line(first, rest) {
         return Ok(None);
     }
     Ok(Some(line))

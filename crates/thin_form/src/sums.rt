@@ -10,12 +10,13 @@ use crate::trees;
 use crate::words::{next_word, without_back};
 use py_tree::{Expr, is_name, number};
 use py_value::Memory;
+use sqlite_items::Boxed;
 use std::alloc::Global;
 
 const MAX_TERMS: u32 = 32;
 
 // The sum that the text spells: at most `MAX_TERMS` terms, each but the first behind ` + `.
-pub fn read_sum(alloc: Global, text: &str, elements: &SliderNames) -> Result<Option<Expr>, Memory>
+pub fn read_sum(alloc: Global, text: &str, elements: &SliderNames) -> Result<Option<Boxed<Expr>>, Memory>
     ensures { IfOk result
         (λ o. option_map view o ≡ reading.read_sum (as_elements elements.now) (words text.now)) }
 {
@@ -27,19 +28,36 @@ pub fn read_sum(alloc: Global, text: &str, elements: &SliderNames) -> Result<Opt
         let Some(text) = rest else {
             return Ok(Some(tree));
         };
-        let Some((word, after)) = next_term(text) else {
+        let Some((longer, after)) = with_term(alloc, tree, text, elements)? else {
             return Ok(None);
         };
-        let Some(right) = read_term(alloc, word, elements)? else {
-            return Ok(None);
-        };
-        tree = trees::sum(alloc, tree, right)?;
+        tree = longer;
         rest = after;
     }
     match rest {
         None => Ok(Some(tree)),
         Some(_) => Ok(None),
     }
+}
+
+// The tree with the term that the text begins with behind `+ `, and the text after it.
+fn with_term<'a>(
+    alloc: Global,
+    tree: Boxed<Expr>,
+    text: &'a str,
+    elements: &SliderNames,
+) -> Result<Option<(Boxed<Expr>, Option<&'a str>)>, Memory>
+    ensures { IfOk result
+        (λ o. option_map (λ p. (view p.0, words_left (option_map (λ t. t.now) p.1))) o
+        ≡ reading.one_more (as_elements elements.now) (view tree) (words text.now)) }
+{
+    let Some((word, after)) = next_term(text) else {
+        return Ok(None);
+    };
+    let Some(right) = read_term(alloc, word, elements)? else {
+        return Ok(None);
+    };
+    Ok(Some((trees::sum(alloc, tree, right)?, after)))
 }
 
 // The word after `+ `, and the text after it.
@@ -54,7 +72,7 @@ fn next_term(text: &str) -> Option<(&str, Option<&str>)>
 }
 
 // The name, the number or the value of a slider that the word is.
-fn read_term(alloc: Global, word: &str, elements: &SliderNames) -> Result<Option<Expr>, Memory>
+fn read_term(alloc: Global, word: &str, elements: &SliderNames) -> Result<Option<Boxed<Expr>>, Memory>
     ensures { IfOk result
         (λ o. option_map view o ≡ reading.read_term (as_elements elements.now) word.now) }
 {
@@ -71,7 +89,7 @@ fn read_term(alloc: Global, word: &str, elements: &SliderNames) -> Result<Option
 }
 
 // `NAME.value`, where the word is this and the name is that of a slider.
-fn read_value(alloc: Global, word: &str, elements: &SliderNames) -> Result<Option<Expr>, Memory>
+fn read_value(alloc: Global, word: &str, elements: &SliderNames) -> Result<Option<Boxed<Expr>>, Memory>
     ensures { IfOk result
         (λ o. option_map view o ≡ reading.read_value (as_elements elements.now) word.now) }
 {

@@ -7,7 +7,7 @@ use Rattle.std.proofs.lemmas.Bool.{and_parts, both_ways, cases_Bool, not-true, o
 use Rattle.py_tree.specs.Elements.{created, created_by, elements, head_elements, is_mo_ui, ui_kind}
 use Rattle.py_tree.specs.Names.{Name, is_among, is_local, is_name}
 use Rattle.py_tree.specs.Scope.{defs}
-use Rattle.py_tree.specs.Trees.{Tree, literal, name, sum, attribute, call, Trees, Head, value, assign, import_mo, stmt, Stmts, end, then_comes, Cell}
+use Rattle.py_tree.specs.Trees.{Tree, literal, name, binary, Add, attribute, call, Arguments, Head, value, assign, import_mo, stmt, Stmts, end, then_comes, Cell}
 use Rattle.py_value.specs.ElementData.{ElementData}
 use Rattle.py_value.specs.Elements.{kind_called, made}
 use Rattle.py_value.specs.Maps.{Map, look_up, put, where_name}
@@ -123,7 +123,7 @@ module _ (es : Elements) (ui : Map Value) (kept : HasNoElements ui) (own : List 
   chain_plain env line (literal token) tidy h = refl
   chain_plain env line (name x) tidy h =
       read_plain line x (look_up x env) (not-true _ (and_parts (is_name x) _ h).1) (tidy x)
-  chain_plain env line (sum a b) tidy h =
+  chain_plain env line (binary Add a b) tidy h =
       given_after is_no_element (value_of scene env line a) _
       (λ v. given_after is_no_element (value_of scene env line b) _ (λ w. sum_plain line (number_of v) (number_of w) (joining_fault v w)))
   chain_plain env line (attribute base x) tidy h =
@@ -137,7 +137,7 @@ module _ (es : Elements) (ui : Map Value) (kept : HasNoElements ui) (own : List 
   element_tidy line x (Ok e) is plain = (is, kept_plain (look_up x ui) e (λ v h. kept x v h) plain)
   element_tidy line x (Err fault) is plain = tt
 
-  by_tidy : (env : Env) (line : ℕ) (x : Name) (k : Option Kind) (args : Trees) → es.is_slider x ≡ true
+  by_tidy : (env : Env) (line : ℕ) (x : Name) (k : Option Kind) (args : Arguments) → es.is_slider x ≡ true
       → AllGiven (λ v. IsTidy es x (Some (Plain v))) (element_by scene env line x k args)
   by_tidy env line x None args is = tt
   by_tidy env line x (Some kind) args is =
@@ -145,19 +145,19 @@ module _ (es : Elements) (ui : Map Value) (kept : HasNoElements ui) (own : List 
       (λ _. given_after (λ v. IsTidy es x (Some (Plain v))) (values_after [] scene env line args) _
       (λ vs. element_tidy line x (made kind x _) is (made_plain kind x _)))
 
-  call_tidy : (env : Env) (line : ℕ) (x : Name) (k : Option Name) (callee : Tree) (args : Trees) → es.is_slider x ≡ true
-      → AllGiven (λ v. IsTidy es x (Some (Plain v))) (call_of scene env line x k callee args)
-  call_tidy env line x None callee args is = tt
-  call_tidy env line x (Some kind) callee args is = by_tidy env line x (kind_called kind) args is
+  call_tidy : (env : Env) (line : ℕ) (x : Name) (k : Option Name) (args : Arguments) → es.is_slider x ≡ true
+      → AllGiven (λ v. IsTidy es x (Some (Plain v))) (call_of scene env line x k args)
+  call_tidy env line x None args is = tt
+  call_tidy env line x (Some kind) args is = by_tidy env line x (kind_called kind) args is
 
   maker_tidy : (env : Env) (line : ℕ) (x : Name) (t : Tree) → makes_slider t ≡ true → es.is_slider x ≡ true
       → AllGiven (λ v. IsTidy es x (Some (Plain v))) (right_of scene env line (x ∷ []) t)
-  maker_tidy env line x (call callee args) h is = call_tidy env line x (ui_kind callee) callee args is
+  maker_tidy env line x (call callee args comma) h is = call_tidy env line x (ui_kind callee) args is
   maker_tidy env line x t h is = absurd (both_ways false refl h)
 
   sum_tidy : (env : Env) (line : ℕ) (x : Name) (t : Tree) → AreTidy es env → is_chain es t ≡ true
       → AllGiven (λ v. IsTidy es x (Some (Plain v))) (right_of scene env line (x ∷ []) t)
-  sum_tidy env line x (call callee args) tidy h = absurd (both_ways false refl h)
+  sum_tidy env line x (call callee args comma) tidy h = absurd (both_ways false refl h)
   sum_tidy env line x t tidy h =
       given_weaker is_no_element (λ v. IsTidy es x (Some (Plain v))) (value_of scene env line t) (plain_tidy es x) (chain_plain env line t tidy h)
 
@@ -179,6 +179,7 @@ module _ (es : Elements) (ui : Map Value) (kept : HasNoElements ui) (own : List 
       (or_cases (is_target es false (x ∷ []) && is_sum es t) (is_target es true (x ∷ []) && makes_slider t && es.imported) h))
       (λ v so. tidy_put es x (Plain v) env so tidy)
   head_tidy env line import_mo h tidy = tidy_put es (codes "mo") Module env tt tidy
+  head_tidy env line head h tidy = tt
 
   lines_tidy : (n : ℕ) (block : Stmts) (flow : Flow) → are_lines es n block ≡ true → FlowTidy flow → AllGiven FlowTidy (lines_of scene block flow)
   lines_tidy n end flow h tidy = tidy
@@ -217,13 +218,13 @@ made_created : (es : Elements) (x : Name) (targets : List Name) (t : Tree) → i
     → is_among x targets ≡ true → is_among x (head_elements (assign targets t)) ≡ true
 made_created es x [] t target makes here = nothing target
 made_created es x (y ∷ z ∷ ys) t target makes here = nothing target
-made_created es x (y ∷ []) (call callee args) target makes here =
+made_created es x (y ∷ []) (call callee args false) target makes here =
     let k = maker_kind callee (and_parts (is_maker callee) _ makes).0 in
     ap (λ o. is_among x (created_by o y)) k.1 ∙ here
 made_created es x (y ∷ []) t target makes here = nothing makes
 
 sum_makes_none : (es : Elements) (t : Tree) → is_sum es t ≡ true → makes_slider t ≡ true → ⊥
-sum_makes_none es (call callee args) h makes = nothing h
+sum_makes_none es (call callee args comma) h makes = nothing h
 sum_makes_none es t h makes = nothing makes
 
 slider_created : (es : Elements) (x : Name) (h : Head) → is_line es h ≡ true → is_among x (head_sliders h) ≡ true

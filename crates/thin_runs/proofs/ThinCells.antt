@@ -7,7 +7,7 @@ use Rattle.std.proofs.lemmas.Option.{none-some, same_Some}
 use Rattle.py_tree.specs.Elements.{is_mo, is_mo_ui, ui_kind, created_by, head_elements, created, elements}
 use Rattle.py_tree.specs.Names.{Name, is_among, is_local, is_lower, builtins, keywords, unused_keywords, reserved, is_plain_name, is_name}
 use Rattle.py_tree.specs.Scope.{reads, all_reads, head_binds, head_reads, bound, read_names, defs, refs}
-use Rattle.py_tree.specs.Trees.{Tree, literal, name, sum, attribute, call, Trees, none, more, Head, value, assign, import_mo, stmt, Stmts, end, then_comes, Cell}
+use Rattle.py_tree.specs.Trees.{Tree, literal, name, binary, Add, attribute, call, Arguments, no_argument, positional, Head, value, assign, import_mo, stmt, Stmts, end, then_comes, Cell}
 use Rattle.py_value.specs.Maps.{Map}
 use Rattle.py_value.specs.declared.types.Value.{Value}
 use Rattle.run_meaning.specs.Meaning.{Env}
@@ -58,7 +58,7 @@ term_read es x (attribute base y) h here = slider_name_read es x base (and_parts
 term_read es x t h here = nothing h
 
 chain_read : (es : Elements) (x : Name) (t : Tree) → is_chain es t ≡ true → is_among x (reads t) ≡ true → is_name x ≡ true
-chain_read es x (sum a b) h here = ⊎_elim
+chain_read es x (binary Add a b) h here = ⊎_elim
     (chain_read es x a (and_parts _ _ h).0)
     (term_read es x b (and_parts _ _ h).1)
     (among_cases x (reads a) (reads b) here)
@@ -71,16 +71,14 @@ number_read : (x : Name) (t : Tree) → is_number_tree t ≡ true → is_among x
 number_read x (literal token) h here = nothing here
 number_read x t h here = nothing h
 
-bounds_read : (x : Name) (ts : Trees) → are_bounds ts ≡ true → is_among x (all_reads ts) ≡ true → ⊥
-bounds_read x none h here = nothing h
-bounds_read x (more a none) h here = nothing h
-bounds_read x (more a (more b none)) h here =
+bounds_read : (x : Name) (args : Arguments) → are_bounds args ≡ true → is_among x (all_reads args) ≡ true → ⊥
+bounds_read x (positional a (positional b no_argument)) h here =
     let both = and_parts (is_number_tree a && is_number_tree b) _ h in
     let each = and_parts (is_number_tree a) (is_number_tree b) both.0 in
     ⊎_elim (number_read x a each.0)
     (λ later. ⊎_elim (number_read x b each.1) (λ no_more. nothing no_more) (among_cases x (reads b) [] later))
     (among_cases x (reads a) (reads b ++ []) here)
-bounds_read x (more a (more b (more c rest))) h here = nothing h
+bounds_read x args h here = nothing h
 
 mo_read : (x : Name) (t : Tree) → is_mo t ≡ true → is_among x (reads t) ≡ true → codes "mo" ≡ x
 mo_read x (name z) h here = sym (name_of z (codes "mo") h) ∙ among_one x z here
@@ -96,7 +94,7 @@ maker_read x t h here = nothing h
 
 -- `mo.ui.slider(LOW, HIGH)` reads `mo` alone
 slider_read : (x : Name) (t : Tree) → makes_slider t ≡ true → is_among x (reads t) ≡ true → codes "mo" ≡ x
-slider_read x (call callee args) h here = ⊎_elim
+slider_read x (call callee args false) h here = ⊎_elim
     (maker_read x callee (and_parts _ _ h).0)
     (λ later. absurd (bounds_read x args (and_parts _ _ h).1 later))
     (among_cases x (reads callee) (all_reads args) here)
@@ -113,6 +111,7 @@ line_read es x (assign targets t) h here = ⊎_elim
     (λ slider. inr (slider_read x t (and_parts (is_target es true targets) (makes_slider t) (and_parts (is_target es true targets && makes_slider t) es.imported slider).0).1 here))
     (or_cases (is_target es false targets && is_sum es t) (is_target es true targets && makes_slider t && es.imported) h)
 line_read es x import_mo h here = nothing here
+line_read es x head h here = nothing h
 
 -- ---- what a line creates
 
@@ -127,16 +126,16 @@ record IsMade (x : Name) (h : Head) : Type 0 where
   reads_mo : (y : Name) → is_among y (head_reads h) ≡ true → codes "mo" ≡ y
 
 made_line : (es : Elements) (x : Name) (h : Head) → is_line es h ≡ true → is_among x (head_elements h) ≡ true → IsMade x h
-made_line es x (assign (y ∷ []) (call callee args)) h here = ⊎_elim
+made_line es x (assign (y ∷ []) (call callee args comma)) h here = ⊎_elim
     (λ plain. nothing (and_parts (is_target es false (y ∷ [])) _ plain).1)
     (λ slider.
-    let both = and_parts (is_target es true (y ∷ [])) (makes_slider (call callee args)) (and_parts (is_target es true (y ∷ []) && makes_slider (call callee args)) es.imported slider).0 in
+    let both = and_parts (is_target es true (y ∷ [])) (makes_slider (call callee args comma)) (and_parts (is_target es true (y ∷ []) && makes_slider (call callee args comma)) es.imported slider).0 in
     record {
       named = subst (λ z. is_name z ≡ true) (created_one (ui_kind callee) x y here) (and_parts (is_name y) _ both.0).0;
       alone = both.1;
-      reads_mo = λ z read. slider_read z (call callee args) both.1 read;
+      reads_mo = λ z read. slider_read z (call callee args comma) both.1 read;
     })
-    (or_cases (is_target es false (y ∷ []) && is_sum es (call callee args)) (is_target es true (y ∷ []) && makes_slider (call callee args) && es.imported) h)
+    (or_cases (is_target es false (y ∷ []) && is_sum es (call callee args comma)) (is_target es true (y ∷ []) && makes_slider (call callee args comma) && es.imported) h)
 made_line es x h line here = nothing here
 
 -- ---- lines
@@ -239,7 +238,7 @@ by_target None x y h = nothing h
 by_target (Some kind) x y h = h
 
 head_bound : (x : Name) (h : Head) → is_among x (head_elements h) ≡ true → is_among x (head_binds h) ≡ true
-head_bound x (assign (y ∷ []) (call callee args)) here = by_target (ui_kind callee) x y here
+head_bound x (assign (y ∷ []) (call callee args comma)) here = by_target (ui_kind callee) x y here
 head_bound x h here = nothing here
 
 created_bound : (x : Name) (b : Stmts) → is_among x (created b) ≡ true → is_among x (bound b) ≡ true

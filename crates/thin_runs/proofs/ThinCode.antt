@@ -9,9 +9,9 @@ use Rattle.std.proofs.lemmas.Slice.Eq.{bytes_eq-Decides}
 use Rattle.std.specs.Str.{bytes_eq}
 use Rattle.py_tree.specs.Elements.{is_mo, is_mo_ui}
 use Rattle.py_tree.specs.Names.{Name, is_among, is_local, is_lower, is_upper, is_digit, begins_name, continues_name, is_spelled_name, is_identifier, keywords, unused_keywords, builtins, is_plain_name, is_name}
-use Rattle.py_tree.specs.Levels.{level, is_levelled, are_levelled_trees, is_levelled_head, are_targets, are_levelled}
+use Rattle.py_tree.specs.Levels.{level, is_levelled, are_levelled_arguments, is_levelled_head, are_targets, are_levelled}
 use Rattle.py_tree.specs.Scope.{bound, head_binds}
-use Rattle.py_tree.specs.Trees.{Tree, literal, name, sum, attribute, call, Trees, none, more, Head, value, assign, import_mo, stmt, Stmts, end, then_comes, Cell}
+use Rattle.py_tree.specs.Trees.{Tree, literal, name, binary, Add, attribute, call, Arguments, no_argument, positional, Head, value, assign, import_mo, stmt, Stmts, end, then_comes, Cell}
 use Rattle.form_meaning.specs.Thin.{Elements, elements_of, is_number_tree, number_in, is_slider_name, is_maker, are_bounds, makes_slider, is_term, is_chain, terms, is_sum, is_target, is_line, is_empty, are_lines, line_count, is_whole, is_cell, are_cells, are_thin}
 use Rattle.py_tree.proofs.NamesOf.{not_among_append}
 use Rattle.thin_runs.proofs.ThinCells.{cell_lines, first_line, name_plain, nothing, thin_cell, unreserved}
@@ -82,20 +82,18 @@ number_levelled : (t : Tree) → is_number_tree t ≡ true → is_levelled t ≡
 number_levelled (literal token) h = h
 number_levelled t h = nothing h
 
-bounds_levelled : (ts : Trees) → are_bounds ts ≡ true → are_levelled_trees ts ≡ true
-bounds_levelled none h = refl
-bounds_levelled (more a none) h = nothing h
-bounds_levelled (more a (more b none)) h =
+bounds_levelled : (args : Arguments) → are_bounds args ≡ true → are_levelled_arguments args ≡ true
+bounds_levelled (positional a (positional b no_argument)) h =
     let p = and_parts (is_number_tree a && is_number_tree b) (nat_le (number_in a) (number_in b)) h in
     let q = and_parts (is_number_tree a) (is_number_tree b) p.0 in
     and_from (is_levelled a) (is_levelled b && true) (number_levelled a q.0) (and_from (is_levelled b) true (number_levelled b q.1) refl)
-bounds_levelled (more a (more b (more c rest))) h = nothing h
+bounds_levelled args h = nothing h
 
 slider_levelled : (t : Tree) → makes_slider t ≡ true → is_levelled t ≡ true
-slider_levelled (call callee args) h =
+slider_levelled (call callee args false) h =
     let p = and_parts (is_maker callee) (are_bounds args) h in
     let m = maker_good callee p.0 in
-    and_from (is_levelled callee && nat_lt 9 (level callee)) (are_levelled_trees args) (and_from (is_levelled callee) (nat_lt 9 (level callee)) m.1 m.0) (bounds_levelled args p.1)
+    and_from (is_levelled callee && nat_lt 9 (level callee)) (are_levelled_arguments args) (and_from (is_levelled callee) (nat_lt 9 (level callee)) m.1 m.0) (bounds_levelled args p.1)
 slider_levelled t h = nothing h
 
 slider_name_good : (es : Elements) (t : Tree) → is_slider_name es t ≡ true → IsBase t
@@ -113,7 +111,7 @@ term_level es t h = nothing h
 chain_levelled : (es : Elements) (t : Tree) → is_chain es t ≡ true → is_levelled t ≡ true
 chain_levelled es (literal token) h = h
 chain_levelled es (name x) h = (term_level es (name x) h).1
-chain_levelled es (sum a b) h =
+chain_levelled es (binary Add a b) h =
     let p = and_parts (is_chain es a) (is_term es b) h in
     let q = term_level es b p.1 in
     and_from (is_levelled a && nat_lt 6 (level b)) (is_levelled b) (and_from (is_levelled a) (nat_lt 6 (level b)) (chain_levelled es a p.0) q.0) q.1
@@ -152,6 +150,7 @@ head_good es (assign targets t) h =
     bound_good es true targets t q.0 (slider_levelled t q.1))
     (or_cases (is_target es false targets && is_sum es t) (is_target es true targets && makes_slider t && es.imported) h)
 head_good es import_mo h = (refl, refl)
+head_good es head h = nothing h
 
 empty_good : (b : Stmts) → is_empty b ≡ true → (are_levelled b ≡ true) × (bound b ≡ [])
 empty_good end h = (refl, refl)

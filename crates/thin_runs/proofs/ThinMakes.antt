@@ -3,7 +3,7 @@ use Rattle.std.proofs.Common.{◌≡◌, ◌∙◌, sym, ap, subst, ℕ, ◌+◌
 use Rattle.std.proofs.lemmas.Bool.{and_parts, or_cases}
 use Rattle.py_tree.specs.Elements.{created, elements, head_elements, ui_kind}
 use Rattle.py_tree.specs.Names.{Name, is_among, is_local}
-use Rattle.py_tree.specs.Trees.{Tree, call, Trees, Head, assign, stmt, Stmts, end, then_comes, Cell}
+use Rattle.py_tree.specs.Trees.{Tree, call, Arguments, Head, assign, stmt, Stmts, end, then_comes, Cell}
 use Rattle.py_value.specs.ElementData.{ElementData}
 use Rattle.py_value.specs.Elements.{at_kept}
 use Rattle.py_value.specs.Maps.{Map, look_up, put}
@@ -34,17 +34,17 @@ own_put : (ui : Map Value) (x : Name) (v : Value) (env : Env) → IsNamed ui x v
 own_put ui x (V.Element e) env h = (e, ap (named_so x) (look_up-put x (Plain (V.Element e)) env) ∙ ap (λ b. cond b (Some e) None) h.0, h.1)
 own_put ui x v env h = absurd h
 
-target_own : (scene : Scene) (env : Env) (line : ℕ) (x y : Name) (callee : Tree) (args : Trees) → y ≡ x
-    → AllGiven (FlowOwn scene.present x) (head_of scene env line (assign (y ∷ []) (call callee args)))
-target_own scene env line x y callee args same =
-    subst (λ y. AllGiven (FlowOwn scene.present x) (head_of scene env line (assign (y ∷ []) (call callee args)))) (sym same)
-    (given_then (IsNamed scene.present x) (FlowOwn scene.present x) (right_of scene env line (x ∷ []) (call callee args)) _
-    (call_named scene env line x (ui_kind callee) callee args) (λ v named. own_put scene.present x v env named))
+target_own : (scene : Scene) (env : Env) (line : ℕ) (x y : Name) (callee : Tree) (args : Arguments) (comma : Bool) → y ≡ x
+    → AllGiven (FlowOwn scene.present x) (head_of scene env line (assign (y ∷ []) (call callee args comma)))
+target_own scene env line x y callee args comma same =
+    subst (λ y. AllGiven (FlowOwn scene.present x) (head_of scene env line (assign (y ∷ []) (call callee args comma)))) (sym same)
+    (given_then (IsNamed scene.present x) (FlowOwn scene.present x) (right_of scene env line (x ∷ []) (call callee args comma)) _
+    (call_named scene env line x (ui_kind callee) args) (λ v named. own_put scene.present x v env named))
 
 head_own : (scene : Scene) (env : Env) (line : ℕ) (x : Name) (h : Head) → is_among x (head_elements h) ≡ true
     → AllGiven (FlowOwn scene.present x) (head_of scene env line h)
-head_own scene env line x (assign (y ∷ []) (call callee args)) here =
-    target_own scene env line x y callee args (created_one (ui_kind callee) x y here)
+head_own scene env line x (assign (y ∷ []) (call callee args comma)) here =
+    target_own scene env line x y callee args comma (created_one (ui_kind callee) x y here)
 head_own scene env line x h here = nothing here
 
 -- one line

@@ -1,15 +1,16 @@
 // Small notebooks: a cell is given by the name that it binds and the names that it adds up.
 use crate::trees::{added, named, number, spelled};
 use cell_graph::{defs, notebook, refs};
-use py_tree::{Block, CellCode, Expr, Line, Spellings, Stmt};
+use py_tree::{Block, CellCode, Expr, Line, Spelling, Spellings, Stmt};
 use py_value::{Lines, Memory, Text};
+use sqlite_items::Boxed;
 use std::alloc::Global;
 use std::test::Fail;
 
 type Row<'a> = (&'a str, &'a [&'a str]);
 
 // `1`, and these names added to it
-fn one_and(alloc: Global, names: &[&str]) -> Result<Expr, Memory> {
+fn one_and(alloc: Global, names: &[&str]) -> Result<Boxed<Expr>, Memory> {
     let mut tree = number(alloc, "1")?;
     for name in names {
         let name = named(alloc, *name)?;
@@ -18,12 +19,20 @@ fn one_and(alloc: Global, names: &[&str]) -> Result<Expr, Memory> {
     Ok(tree)
 }
 
+fn assignment_line(
+    alloc: Global,
+    targets: Vec<Spelling>,
+    value: Boxed<Expr>,
+) -> Result<Boxed<Line>, Memory> {
+    Ok(Boxed::new(alloc, Line::Assign(Spellings::of(targets), value))?)
+}
+
 fn assignment(alloc: Global, row: Row) -> Result<Stmt, Memory> {
     let mut targets = Vec::new(alloc);
     targets.push(spelled(alloc, row.0)?)?;
     Ok(Stmt {
         number: 1,
-        line: Line::Assign(Spellings::of(targets), one_and(alloc, row.1)?),
+        line: assignment_line(alloc, targets, one_and(alloc, row.1)?)?,
         block: Block::of(Vec::new(alloc)),
     })
 }

@@ -1,6 +1,6 @@
 // Trees of expressions.
 ghost use Rattle.std.specs.Prelude.{◌≡◌, IfOk};
-ghost use Rattle.py_tree.specs.Trees.{literal, name, sum};
+ghost use Rattle.py_tree.specs.Trees.{literal, name, binary, Add};
 ghost use Rattle.py_tree.specs.View.{view};
 ghost use Rattle.py_tree.specs.declared.token.TokenKind.TheVariants as kind;
 
@@ -15,14 +15,15 @@ pub fn spelled(alloc: Global, text: &str) -> Result<Spelling, Memory>
     Ok(Spelling::of(String::from_str(alloc, text)?))
 }
 
-pub fn number(alloc: Global, digits: &str) -> Result<Expr, Memory>
+pub fn number(alloc: Global, digits: &str) -> Result<Boxed<Expr>, Memory>
     ensures { IfOk result
         (λ e. view e ≡ literal (record { kind = kind.Number; spelling = digits.now })) }
 {
-    Ok(Expr::Literal(Token {
+    let token = Token {
         kind: TokenKind::Number,
         spelling: spelled(alloc, digits)?,
-    }))
+    };
+    boxed(alloc, Expr::Literal(token))
 }
 
 pub fn boxed(alloc: Global, tree: Expr) -> Result<Boxed<Expr>, Memory>
@@ -31,15 +32,18 @@ pub fn boxed(alloc: Global, tree: Expr) -> Result<Boxed<Expr>, Memory>
     Ok(Boxed::new(alloc, tree)?)
 }
 
-pub fn named(alloc: Global, text: &str) -> Result<Expr, Memory>
+pub fn named(alloc: Global, text: &str) -> Result<Boxed<Expr>, Memory>
     ensures { IfOk result (λ e. view e ≡ name text.now) }
 {
-    Ok(Expr::Name(spelled(alloc, text)?))
+    boxed(alloc, Expr::Name(spelled(alloc, text)?))
 }
 
-pub fn added(alloc: Global, left: Expr, right: Expr) -> Result<Expr, Memory>
-    ensures { IfOk result (λ e. view e ≡ sum (view left) (view right)) }
+pub fn added(
+    alloc: Global,
+    left: Boxed<Expr>,
+    right: Boxed<Expr>,
+) -> Result<Boxed<Expr>, Memory>
+    ensures { IfOk result (λ e. view e ≡ binary Add (view left) (view right)) }
 {
-    let left = boxed(alloc, left)?;
-    Ok(Expr::Sum(left, boxed(alloc, right)?))
+    boxed(alloc, Expr::Add(left, right))
 }

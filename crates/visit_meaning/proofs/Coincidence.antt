@@ -7,7 +7,7 @@ use Rattle.std.proofs.lemmas.Bool.{both_ways, and_parts, or_left}
 use Rattle.py_tree.specs.Elements.{is_mo, is_mo_ui, ui_kind, created_by, head_elements, created, elements}
 use Rattle.py_tree.specs.Names.{Name, is_among, is_local}
 use Rattle.py_tree.specs.Scope.{reads, all_reads, head_binds, head_reads, bound, read_names, defs}
-use Rattle.py_tree.specs.Trees.{Tree, literal, name, sum, attribute, call, Trees, none, more, Head, value, assign, import_mo, stmt, Stmts, end, then_comes, Cell}
+use Rattle.py_tree.specs.Trees.{Tree, name, binary, Add, attribute, call, Arguments, no_argument, positional, keyword, Head, value, assign, import_mo, stmt, Stmts, end, then_comes, Cell}
 use Rattle.py_value.specs.ElementData.{ElementData}
 use Rattle.py_value.specs.Elements.{kind_called, at_kept}
 use Rattle.py_value.specs.Maps.{Map, look_up, put, where_name}
@@ -101,25 +101,25 @@ present_same own ui ui' line v = refl
 -- An expression does the same where the names that it reads are bound to the same.
 pub value_same : (own : List Name) (ui ui' : Map Value) (env env' : Env) (line : ℕ) (t : Tree) → Agree (reads t) env env'
     → value_of (scene own ui) env line t ≡ value_of (scene own ui') env' line t
-value_same own ui ui' env env' line (literal token) agree = refl
 value_same own ui ui' env env' line (name x) agree = ap (λ b. Charges 1 line (read line b)) (agree x (among_first x []))
-value_same own ui ui' env env' line (sum a b) agree =
+value_same own ui ui' env env' line (binary Add a b) agree =
     let left = value_same own ui ui' env env' line a (agree_left (reads a) (reads b) env env' agree) in
     let right = value_same own ui ui' env env' line b (agree_right (reads a) (reads b) env env' agree) in
     λ i. Charges 1 line (left i >>= λ x. right i >>= λ y. result_at line (sum_of x y))
 value_same own ui ui' env env' line (attribute base x) agree =
     let inner = value_same own ui ui' env env' line base agree in
     λ i. Charges 1 line (cond (bytes_eq x (codes "value")) (inner i >>= λ v. present_same own ui ui' line v i) (Faults Subset line))
-value_same own ui ui' env env' line (call callee args) agree = refl
+value_same own ui ui' env env' line t agree = refl
 
-pub values_same : (own : List Name) (ui ui' : Map Value) (env env' : Env) (line : ℕ) (ts : Trees) (vs : List Value) → Agree (all_reads ts) env env'
-    → values_after vs (scene own ui) env line ts ≡ values_after vs (scene own ui') env' line ts
-values_same own ui ui' env env' line none vs agree = refl
-values_same own ui ui' env env' line (more t ts) vs agree =
-    let first = value_same own ui ui' env env' line t (agree_left (reads t) (all_reads ts) env env' agree) in
-    let rest : (v : Value) → values_after (vs ++ v ∷ []) (scene own ui) env line ts ≡ values_after (vs ++ v ∷ []) (scene own ui') env' line ts =
-    λ v. values_same own ui ui' env env' line ts (vs ++ v ∷ []) (agree_right (reads t) (all_reads ts) env env' agree) in
+pub values_same : (own : List Name) (ui ui' : Map Value) (env env' : Env) (line : ℕ) (args : Arguments) (vs : List Value) → Agree (all_reads args) env env'
+    → values_after vs (scene own ui) env line args ≡ values_after vs (scene own ui') env' line args
+values_same own ui ui' env env' line no_argument vs agree = refl
+values_same own ui ui' env env' line (positional t args) vs agree =
+    let first = value_same own ui ui' env env' line t (agree_left (reads t) (all_reads args) env env' agree) in
+    let rest : (v : Value) → values_after (vs ++ v ∷ []) (scene own ui) env line args ≡ values_after (vs ++ v ∷ []) (scene own ui') env' line args =
+    λ v. values_same own ui ui' env env' line args (vs ++ v ∷ []) (agree_right (reads t) (all_reads args) env env' agree) in
     λ i. first i >>= λ v. rest v i
+values_same own ui ui' env env' line (keyword x t args) vs agree = refl
 
 -- ---- right sides
 
@@ -151,7 +151,7 @@ element_same : (own : List Name) (ui ui' : Map Value) (line : ℕ) (x : Name) (r
 element_same own ui ui' line x (Ok e) = gives (element e (among_first x []))
 element_same own ui ui' line x (Err fault) = faults
 
-by_same : (own : List Name) (ui ui' : Map Value) (env env' : Env) (line : ℕ) (x : Name) (k : Option Kind) (args : Trees)
+by_same : (own : List Name) (ui ui' : Map Value) (env env' : Env) (line : ℕ) (x : Name) (k : Option Kind) (args : Arguments)
     → look_up (codes "mo") env ≡ look_up (codes "mo") env' → Agree (all_reads args) env env'
     → Alike (Right ui ui' (x ∷ []) (x ∷ [])) (element_by (scene own ui) env line x k args) (element_by (scene own ui') env' line x k args)
 by_same own ui ui' env env' line x None args mo agree = charges faults
@@ -159,29 +159,27 @@ by_same own ui ui' env env' line x (Some kind) args mo agree =
     let values = values_same own ui ui' env env' line args [] agree in
     charges (alike_after _ _ _ (ap (read_module line) mo) (λ _. alike_after _ _ _ values (λ vs. charges (element_same own ui ui' line x _))))
 
-call_same : (own : List Name) (ui ui' : Map Value) (env env' : Env) (line : ℕ) (x : Name) (k : Option Name) (callee : Tree) (args : Trees)
-    → ui_kind callee ≡ k → Agree (reads (call callee args)) env env'
-    → Alike (Right ui ui' (created_by k x) (x ∷ [])) (call_of (scene own ui) env line x k callee args) (call_of (scene own ui') env' line x k callee args)
-call_same own ui ui' env env' line x None callee args is agree =
-    equal_right ui ui' [] (x ∷ []) _ _ (value_same own ui ui' env env' line (call callee args) agree)
+call_same : (own : List Name) (ui ui' : Map Value) (env env' : Env) (line : ℕ) (x : Name) (k : Option Name) (callee : Tree) (args : Arguments)
+    → ui_kind callee ≡ k → Agree (reads callee ++ all_reads args) env env'
+    → Alike (Right ui ui' (created_by k x) (x ∷ [])) (call_of (scene own ui) env line x k args) (call_of (scene own ui') env' line x k args)
+call_same own ui ui' env env' line x None callee args is agree = charges faults
 call_same own ui ui' env env' line x (Some kind) callee args is agree =
     let mo : look_up (codes "mo") env ≡ look_up (codes "mo") env' =
     agree (codes "mo") (among_left (codes "mo") (reads callee) (all_reads args) (kind_read callee kind is)) in
     by_same own ui ui' env env' line x (kind_called kind) args mo (agree_right (reads callee) (all_reads args) env env' agree)
 
-calls_same : (own : List Name) (ui ui' : Map Value) (env env' : Env) (line : ℕ) (targets : List Name) (callee : Tree) (args : Trees)
-    → Agree (reads (call callee args)) env env'
-    → Alike (Right ui ui' (head_elements (assign targets (call callee args))) targets) (calls_for (scene own ui) env line targets callee args)
+calls_same : (own : List Name) (ui ui' : Map Value) (env env' : Env) (line : ℕ) (targets : List Name) (callee : Tree) (args : Arguments) (comma : Bool)
+    → Agree (reads callee ++ all_reads args) env env'
+    → Alike (Right ui ui' (head_elements (assign targets (call callee args comma))) targets) (calls_for (scene own ui) env line targets callee args)
     (calls_for (scene own ui') env' line targets callee args)
-calls_same own ui ui' env env' line (x ∷ []) callee args agree = call_same own ui ui' env env' line x (ui_kind callee) callee args refl agree
-calls_same own ui ui' env env' line targets callee args agree =
-    equal_right ui ui' _ targets _ _ (value_same own ui ui' env env' line (call callee args) agree)
+calls_same own ui ui' env env' line (x ∷ []) callee args comma agree = call_same own ui ui' env env' line x (ui_kind callee) callee args refl agree
+calls_same own ui ui' env env' line targets callee args comma agree = charges faults
 
 -- The right side of a line does the same where the names that it reads are bound to the same.
 pub right_same : (own : List Name) (ui ui' : Map Value) (env env' : Env) (line : ℕ) (targets : List Name) (t : Tree) → Agree (reads t) env env'
     → Alike (Right ui ui' (head_elements (assign targets t)) targets) (right_of (scene own ui) env line targets t)
     (right_of (scene own ui') env' line targets t)
-right_same own ui ui' env env' line targets (call callee args) agree = calls_same own ui ui' env env' line targets callee args agree
+right_same own ui ui' env env' line targets (call callee args comma) agree = calls_same own ui ui' env env' line targets callee args comma agree
 right_same own ui ui' env env' line targets t agree = equal_right ui ui' _ targets _ _ (value_same own ui ui' env env' line t agree)
 
 -- ---- lines and blocks
@@ -232,6 +230,7 @@ head_same own ui ui' E line (assign targets t) env env' k e =
     (λ after after' e'. gives (record { last = refl; env = e' })))
 head_same own ui ui' E line import_mo env env' k e =
     gives (record { last = refl; env = k.puts (codes "mo") Module env env' (among_first (codes "mo") []) e })
+head_same own ui ui' E line head env env' k e = faults
 
 -- Lines do the same, and their bindings stay related.
 pub lines_same : (own : List Name) (ui ui' : Map Value) (E : Env → Env → Type 0) (block : Stmts) (flow flow' : Flow)

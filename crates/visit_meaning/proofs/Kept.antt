@@ -101,6 +101,7 @@ head_changes scene env line (assign targets t) =
     given_after So (right_of scene env line targets t) _
     (λ v. given_then (ChangesOnly targets env) So (bind line targets v env) _ (bind_changes line targets v env) (λ after h. h))
 head_changes scene env line import_mo = one_put (codes "mo") Module env
+head_changes scene env line head = tt
 
 -- lines one after the other
 pub lines_change : (scene : Scene) (block : Stmts) (flow : Flow) → AllGiven (λ (after : Flow). ChangesOnly (bound block) flow.env after.env) (lines_of scene block flow)

@@ -3,7 +3,7 @@ use Rattle.std.proofs.Common.{◌≡◌, refl, ap, ◌∙◌, ℕ, ℤ, Bool, tr
 use Rattle.std.specs.Prelude.{codes}
 use Rattle.std.specs.Str.{bytes_eq}
 use Rattle.py_tree.specs.Names.{Name}
-use Rattle.py_tree.specs.Trees.{Tree, Trees}
+use Rattle.py_tree.specs.Trees as trees
 use Rattle.py_value.specs.ElementData.{ElementData}
 use Rattle.py_value.specs.Elements.{Arguments, Params, Range, at_kept, has_text, is_in_range, kind_called, made, number_at, param, params_of_call, range_at, slider, slider_by, slider_of, slider_parameters}
 use Rattle.py_value.specs.Maps.{Map, look_up}
@@ -96,7 +96,7 @@ at_named : (scene : Scene) (line : ℕ) (x : Name) (r : Result ElementData OpFau
 at_named scene line x (Ok e) h = (kept_named x (look_up x scene.present) e h, kept_twice (look_up x scene.present) e)
 at_named scene line x (Err fault) h = tt
 
-element_named : (scene : Scene) (env : Env) (line : ℕ) (x : Name) (k : Option Kind) (args : Trees)
+element_named : (scene : Scene) (env : Env) (line : ℕ) (x : Name) (k : Option Kind) (args : trees.Arguments)
     → AllGiven (IsNamed scene.present x) (element_by scene env line x k args)
 element_named scene env line x None args = tt
 element_named scene env line x (Some k) args =
@@ -104,7 +104,7 @@ element_named scene env line x (Some k) args =
     (λ _. given_after (IsNamed scene.present x) (values_after [] scene env line args) _ (λ vs. at_named scene line x (made k x _) (made_named k x _)))
 
 -- the right side of a line with this target
-pub call_named : (scene : Scene) (env : Env) (line : ℕ) (x : Name) (k : Option Name) (callee : Tree) (args : Trees)
-    → AllGiven (IsNamed scene.present x) (call_of scene env line x k callee args)
-call_named scene env line x None callee args = tt
-call_named scene env line x (Some k) callee args = element_named scene env line x (kind_called k) args
+pub call_named : (scene : Scene) (env : Env) (line : ℕ) (x : Name) (k : Option Name) (args : trees.Arguments)
+    → AllGiven (IsNamed scene.present x) (call_of scene env line x k args)
+call_named scene env line x None args = tt
+call_named scene env line x (Some k) args = element_named scene env line x (kind_called k) args

@@ -2,34 +2,34 @@
 use Rattle.std.proofs.Common.{arith, ◌≡◌, IsTrue, refl, sym, ◌∙◌, true, codes}
 use Rattle.std.specs.Str.{bytes_eq}
 use Rattle.py_tree.specs.Levels.{is_levelled}
-use Rattle.py_tree.specs.Trees.{name, sum, attribute}
+use Rattle.py_tree.specs.Trees.{name, binary, Add, attribute}
 use Rattle.py_tree.specs.View.{view}
 use Rattle.py_eval.proofs.Sequence.{exit, onward, paid}
 use Rattle.py_eval.proofs.TreeViews.{is_sum, is_attribute, is_attribute_of_name, right_levelled}
 use Rattle.py_eval.proofs.eval.+eval.Goals as goal
 
-pub returns-in_err-x-in-Sum-clause-meets : goal.returns-in_err-x-in-Sum-clause-meets
-returns-in_err-x-in-Sum-clause-meets t c =
-    let is : view c.args.tree.now ≡ sum (view c.get.result.now) (view c.in-Sum.b) = is_sum _ _ _ _ _ c.in-Sum.is c.get.ensures refl in
+pub returns-in_err-x-in-Add-clause-meets : goal.returns-in_err-x-in-Add-clause-meets
+returns-in_err-x-in-Add-clause-meets t c =
+    let is : view c.args.tree.now ≡ binary Add (view c.get.result.now) (view c.in-Add.b) = is_sum _ _ _ _ _ c.in-Add.is c.get.ensures refl in
     rw (is, paid _ 1 c.args.line _ _ c.in_ok-charge.ensures.meets)
-    (exit _ _ _ _ _ _ _ c.from_residual-in_err-x-in-Sum.ensures.1 c.in_err-x-in-Sum.ensures.meets)
+    (exit _ _ _ _ _ _ _ c.from_residual-in_err-x-in-Add.ensures.1 c.in_err-x-in-Add.ensures.meets)
 
-pub returns-in_err-y-in-Sum-clause-meets : goal.returns-in_err-y-in-Sum-clause-meets
-returns-in_err-y-in-Sum-clause-meets t c =
-    let is : view c.args.tree.now ≡ sum (view c.get.result.now) (view c.get-in-Sum.result.now) = is_sum _ _ _ _ _ c.in-Sum.is c.get.ensures c.get-in-Sum.ensures in
-    rw (is, paid _ 1 c.args.line _ _ c.in_ok-charge.ensures.meets, onward _ _ c.in_ok-x-in-Sum.x _ _ c.in_ok-x-in-Sum.ensures.meets)
-    (exit _ _ _ _ _ _ _ c.from_residual-in_err-y-in-Sum.ensures.1 c.in_err-y-in-Sum.ensures.meets)
+pub returns-in_err-y-in-Add-clause-meets : goal.returns-in_err-y-in-Add-clause-meets
+returns-in_err-y-in-Add-clause-meets t c =
+    let is : view c.args.tree.now ≡ binary Add (view c.get.result.now) (view c.get-in-Add.result.now) = is_sum _ _ _ _ _ c.in-Add.is c.get.ensures c.get-in-Add.ensures in
+    rw (is, paid _ 1 c.args.line _ _ c.in_ok-charge.ensures.meets, onward _ _ c.in_ok-x-in-Add.x _ _ c.in_ok-x-in-Add.ensures.meets)
+    (exit _ _ _ _ _ _ _ c.from_residual-in_err-y-in-Add.ensures.1 c.in_err-y-in-Add.ensures.meets)
 
-pub returns-in_ok-y-in-Sum-clause-meets : goal.returns-in_ok-y-in-Sum-clause-meets
-returns-in_ok-y-in-Sum-clause-meets t c =
-    let is : view c.args.tree.now ≡ sum (view c.get.result.now) (view c.get-in-Sum.result.now) = is_sum _ _ _ _ _ c.in-Sum.is c.get.ensures c.get-in-Sum.ensures in
-    rw (is, paid _ 1 c.args.line _ _ c.in_ok-charge.ensures.meets, onward _ _ c.in_ok-x-in-Sum.x _ _ c.in_ok-x-in-Sum.ensures.meets, onward _ _ c.in_ok-y-in-Sum.y _ _ c.in_ok-y-in-Sum.ensures.meets)
+pub returns-in_ok-y-in-Add-clause-meets : goal.returns-in_ok-y-in-Add-clause-meets
+returns-in_ok-y-in-Add-clause-meets t c =
+    let is : view c.args.tree.now ≡ binary Add (view c.get.result.now) (view c.get-in-Add.result.now) = is_sum _ _ _ _ _ c.in-Add.is c.get.ensures c.get-in-Add.ensures in
+    rw (is, paid _ 1 c.args.line _ _ c.in_ok-charge.ensures.meets, onward _ _ c.in_ok-x-in-Add.x _ _ c.in_ok-x-in-Add.ensures.meets, onward _ _ c.in_ok-y-in-Add.y _ _ c.in_ok-y-in-Add.ensures.meets)
     (c.sum.ensures _)
 
-pub eval-requires-in-Sum : goal.eval-requires-in-Sum
-eval-requires-in-Sum t c =
-    let levelled : IsTrue (is_levelled (view c.get-in-Sum.result.now)) = right_levelled _ _ _ _ c.get-in-Sum.ensures c.in-Sum.is c.requires in
-    (omega (arith, c.in_ok-charge.ensures.paid, c.in_ok-x-in-Sum.ensures.used), levelled)
+pub eval-requires-in-Add : goal.eval-requires-in-Add
+eval-requires-in-Add t c =
+    let levelled : IsTrue (is_levelled (view c.get-in-Add.result.now)) = right_levelled _ _ _ _ c.get-in-Add.ensures c.in-Add.is c.requires in
+    (omega (arith, c.in_ok-charge.ensures.paid, c.in_ok-x-in-Add.ensures.used), levelled)
 
 pub returns-in-Name-get-clause-meets : goal.returns-in-Name-get-clause-meets
 returns-in-Name-get-clause-meets t c =

@@ -10,24 +10,24 @@ use Rattle.py_eval.proofs.lines.run_line.Goals as goal
 
 pub returns-in_err-eval-in-Value-clause-meets : goal.returns-in_err-eval-in-Value-clause-meets
 returns-in_err-eval-in-Value-clause-meets c =
-    rw (ap view_head c.in-Value.is) (exit _ _ _ _ _ _ _ c.from_residual.ensures.1 c.in_err-eval-in-Value.ensures.meets)
+    rw (ap view_head c.in-Value.is, ← c.get.ensures) (exit _ _ _ _ _ _ _ c.from_residual.ensures.1 c.in_err-eval-in-Value.ensures.meets)
 
 pub returns-in_ok-eval-in-Value-clause-meets : goal.returns-in_ok-eval-in-Value-clause-meets
 returns-in_ok-eval-in-Value-clause-meets c =
-    rw (ap view_head c.in-Value.is, onward _ _ c.in_ok-eval-in-Value.field-0 _ _ c.in_ok-eval-in-Value.ensures.meets) refl
+    rw (ap view_head c.in-Value.is, ← c.get.ensures, onward _ _ c.in_ok-eval-in-Value.field-0 _ _ c.in_ok-eval-in-Value.ensures.meets) refl
 
 pub returns-in_err-value-in-Assign-clause-meets : goal.returns-in_err-value-in-Assign-clause-meets
 returns-in_err-value-in-Assign-clause-meets c =
-    rw (ap view_head c.in-Assign.is, ← c.items-names.ensures) (exit _ _ _ _ _ _ _ c.from_residual-in_err-value-in-Assign.ensures.1 c.in_err-value-in-Assign.ensures.meets)
+    rw (ap view_head c.in-Assign.is, ← c.items-names.ensures, ← c.get-in-Assign.ensures) (exit _ _ _ _ _ _ _ c.from_residual-in_err-value-in-Assign.ensures.1 c.in_err-value-in-Assign.ensures.meets)
 
 pub returns-in_err-bind_targets-in-Assign-clause-meets : goal.returns-in_err-bind_targets-in-Assign-clause-meets
 returns-in_err-bind_targets-in-Assign-clause-meets c =
-    rw (ap view_head c.in-Assign.is, ← c.items-names.ensures, onward _ _ c.in_ok-value-in-Assign.value _ _ c.in_ok-value-in-Assign.ensures.meets)
+    rw (ap view_head c.in-Assign.is, ← c.items-names.ensures, ← c.get-in-Assign.ensures, onward _ _ c.in_ok-value-in-Assign.value _ _ c.in_ok-value-in-Assign.ensures.meets)
     (exit _ _ _ _ _ _ _ c.from_residual-in_err-bind_targets-in-Assign.ensures.1 (c.in_err-bind_targets-in-Assign.ensures.meets _))
 
 pub returns-in_ok-bind_targets-in-Assign-clause-meets : goal.returns-in_ok-bind_targets-in-Assign-clause-meets
 returns-in_ok-bind_targets-in-Assign-clause-meets c =
-    rw (ap view_head c.in-Assign.is, ← c.items-names.ensures, onward _ _ c.in_ok-value-in-Assign.value _ _ c.in_ok-value-in-Assign.ensures.meets, onward _ _ c.bind_targets.new.env _ _ (c.in_ok-bind_targets-in-Assign.ensures.meets _)) refl
+    rw (ap view_head c.in-Assign.is, ← c.items-names.ensures, ← c.get-in-Assign.ensures, onward _ _ c.in_ok-value-in-Assign.value _ _ c.in_ok-value-in-Assign.ensures.meets, onward _ _ c.bind_targets.new.env _ _ (c.in_ok-bind_targets-in-Assign.ensures.meets _)) refl
 
 pub returns-in_ok-put-in-ImportMo-clause-kept : goal.returns-in_ok-put-in-ImportMo-clause-kept
 returns-in_ok-put-in-ImportMo-clause-kept c =

@@ -1,9 +1,8 @@
 -- What is measured is the field that is read.
 use Rattle.std.proofs.Common.{◌∙◌, ◌-◌, length, take, sym, ap, subst, option_map}
 use Rattle.lexical_form.specs.Tokens as tokens
-use Rattle.py_tokens.specs.TokenView.{view_convert}
 use Rattle.py_lexer.specs.Views.{quotes}
-use Rattle.py_tokens.specs.SpecView.{view_spec}
+use Rattle.py_tree.specs.FieldView.{view_convert, view_spec}
 use Rattle.py_lines.specs.FieldEnds.{tail_says, is_whole, FieldRead}
 use Rattle.py_lines.specs.FieldSteps.{inside}
 use Rattle.py_lines.proofs.FieldEndLaws.{no_tail, not_whole, whole_field}

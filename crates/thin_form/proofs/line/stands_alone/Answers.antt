@@ -4,7 +4,7 @@ use Rattle.std.specs.Prelude.{IsTrue, List, ℕ}
 use Rattle.thin_form.specs.Lines.{is_call}
 use Rattle.form_meaning.specs.Thin.{Elements, is_line, stands_alone}
 use Rattle.py_tree.specs.View.{view, view_head}
-use Rattle.py_tree.specs.declared.tree.Expr.{Expr}
+use Rattle.py_tree.specs.declared.expr.Expr.{Expr}
 use Rattle.py_tree.specs.declared.tree.Line.{Line}
 use Rattle.py_tree.specs.declared.tree.Line.TheVariants as line
 use Rattle.thin_form.proofs.LineCases.{call_alone}

@@ -7,7 +7,7 @@ use Rattle.thin_form.specs.Words.{words, words_left}
 use Rattle.form_meaning.specs.Thin.{terms}
 use Rattle.py_tree.specs.View.{view}
 use Rattle.thin_form.proofs.Cuts.{some_word}
-use Rattle.thin_form.proofs.SumSteps.{one_term, no_plus, plus_no_term, plus_term, too_many}
+use Rattle.thin_form.proofs.SumSteps.{one_term, no_more, one_longer, too_many}
 use Rattle.thin_form.proofs.sums.read_sum.Goals as goal
 
 pub loop-terms-init : goal.loop-terms-init
@@ -15,32 +15,19 @@ loop-terms-init c =
     let first = one_term (as_elements c.args.elements.now) _ _ _ _ c.next_word.ensures (rw c.in-Some.is at c.in_ok-tree.ensures) in
     record { count = first.0; same = first.1 }
 
-pub returns-in_default-next_term : goal.returns-in_default-next_term
-returns-in_default-next_term c =
-    let same = rw c.in-Some-rest.is at c.loop-terms.invariant.same in
-    let stop = no_plus (as_elements c.args.elements.now) (view c.loop-terms.tree) _ (some_word c.in-Some-rest.text.now) c.in_default-next_term.ensures in
-    sym (same ∙ stop)
-
 pub returns-in_default-2 : goal.returns-in_default-2
 returns-in_default-2 c =
-    let next = c.in-Some-next_term in
-    let after = words_left (option_map (λ (t : Bor (List ℕ)). t.now) next.after) in
-    let none = rw c.in_default-2.is at c.in_ok-right.ensures in
-    let stop = plus_no_term (as_elements c.args.elements.now) (view c.loop-terms.tree) (words c.in-Some-rest.text.now) after next.word.now (omega arith) next.ensures none in
+    let none = rw c.in_default-2.is at c.in_ok-longer.ensures in
+    let stop = no_more (as_elements c.args.elements.now) (view c.loop-terms.tree) (words c.in-Some-rest.text.now) (omega arith) (some_word c.in-Some-rest.text.now) none in
     sym ((rw c.in-Some-rest.is at c.loop-terms.invariant.same) ∙ stop)
 
 pub loop-terms-preserved : goal.loop-terms-preserved
 loop-terms-preserved c =
-    let next = c.in-Some-next_term in
-    let after = words_left (option_map (λ (t : Bor (List ℕ)). t.now) next.after) in
-    let some = rw c.in-Some-2.is at c.in_ok-right.ensures in
-    let step = plus_term (as_elements c.args.elements.now) (view c.loop-terms.tree) (view c.in-Some-2.right) (words c.in-Some-rest.text.now) after next.word.now (omega arith) next.ensures some in
+    let after = words_left (option_map (λ (t : Bor (List ℕ)). t.now) c.in-Some-2.after) in
+    let some = rw c.in-Some-2.is at c.in_ok-longer.ensures in
+    let step = one_longer (as_elements c.args.elements.now) (view c.loop-terms.tree) (view c.in-Some-2.longer) (words c.in-Some-rest.text.now) after (omega arith) some in
     let same = rw c.in-Some-rest.is at c.loop-terms.invariant.same in
-    let tree = sym c.in_ok-tree-2.ensures in
-    record {
-      count = ap (λ n. n + 1) c.loop-terms.invariant.count ∙ ap terms tree;
-      same = same ∙ (step ∙ ap (λ t. read_more (as_elements c.args.elements.now) t after) tree);
-    }
+    record { count = ap (λ n. n + 1) c.loop-terms.invariant.count ∙ sym step.0; same = same ∙ step.1 }
 
 pub returns-in-Some-rest-2 : goal.returns-in-Some-rest-2
 returns-in-Some-rest-2 c =

@@ -1,4 +1,15 @@
-// What the format of a field says.
+// How the value of an f-text's field becomes a text.
+
+/// The conversion of a field.
+#[derive(Clone, Copy, Debug, PartialEq, Eq)]
+pub enum Convert {
+    /// None is written.
+    Plain,
+    /// `!r`
+    Repr,
+    /// `!s`
+    Str,
+}
 
 /// The alignment of a format.
 #[derive(Clone, Copy, Debug, PartialEq, Eq)]

@@ -1,0 +1,12 @@
+pub mod Depth
+pub mod Expressions
+pub mod Grouping
+pub mod Levelled
+pub mod Levels
+pub mod LineGrouping
+pub mod LinePrinting
+pub mod Lines
+pub mod Literals
+pub mod Printing
+pub mod Shapes
+pub mod SpelledTokens

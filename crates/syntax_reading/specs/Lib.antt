@@ -1,0 +1,12 @@
+pub mod Items
+pub mod LineForms
+pub mod LinePieces
+pub mod LineReading
+pub mod Parts
+pub mod Readers
+pub mod Reading
+pub mod Tables
+pub mod Words
+pub mod Worked
+pub mod WorkedExpressions
+pub mod WorkedLines
