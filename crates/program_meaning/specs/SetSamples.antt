@@ -15,7 +15,7 @@ abbrev pub two_sliders : List Cell
 two_sliders =
     one_line 3 import_mo ∷ assigns 6 (codes "s") slider_to_ten ∷
     assigns 9 (codes "t") (slider_from (number (codes "0")) (number (codes "5"))) ∷
-    shows 12 (sum (value_at (codes "s")) (value_at (codes "t"))) ∷ []
+    shows 12 (binary Add (value_at (codes "s")) (value_at (codes "t"))) ∷ []
 
 -- `import marimo as mo`, `a = mo.ui.slider(0, 10)`, `b = mo.ui.slider(a.value, 20)` and `b.value`: a slider that begins where another one stands
 abbrev pub chained : List Cell
