@@ -6,7 +6,7 @@ use Rattle.py_tree.specs.Elements.{is_mo_ui}
 use Rattle.py_tree.specs.Names.{Name, is_among, is_name}
 use Rattle.py_tree.specs.TextLines.{text_of, byte_limit}
 use Rattle.py_tree.specs.Numbers.{number_of}
-use Rattle.py_tree.specs.Levels.{is_literal}
+use Rattle.py_tree.specs.Meant.{is_literal}
 use Rattle.py_tree.specs.Trees.{Tree, literal, name, binary, Add, attribute, call, Arguments, no_argument, positional, Head, value, assign, import_mo, stmt, Stmts, end, then_comes, Cell}
 
 -- What the lines of a file say of its elements: which names are those of sliders, and whether a line imports `mo`.

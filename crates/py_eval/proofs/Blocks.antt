@@ -4,7 +4,7 @@ use Rattle.std.proofs.Math.Seq.{drop-cons}
 use Rattle.std.proofs.lemmas.Bool.{and_parts}
 use Rattle.py_tree.specs.declared.tree.Line.{Line}
 use Rattle.py_tree.specs.declared.tree.Stmt.{Stmt, out-Stmt, roll-out-Stmt, fold-roll-Stmt}
-use Rattle.py_tree.specs.Levels.{is_levelled_head, are_levelled}
+use Rattle.py_tree.specs.Meant.{head_has_meaning, have_meaning}
 use Rattle.py_tree.specs.Names.{Name, is_among}
 use Rattle.py_tree.specs.Scope.{bound, head_binds}
 use Rattle.py_tree.specs.Trees.{Head, Stmts, stmt, then_comes}
@@ -24,14 +24,14 @@ place ss i s l lt is same =
     ∙ λ j. then_comes (stmt (out-Stmt s).number (view_head (sym same j)) (view_block (out-Stmt s).block)) (view_stmts (drop (i + 1) ss))
 
 module _ (lines rest block : Stmts) (n : ℕ) (head : Head) (is : lines ≡ then_comes (stmt n head block) rest) where
-  levelled : IsTrue (are_levelled lines) → (is_levelled_head head && are_levelled block && are_levelled rest) ≡ true
-  levelled h = subst (λ ss. are_levelled ss ≡ true) is h
+  meant : IsTrue (have_meaning lines) → (head_has_meaning head && have_meaning block && have_meaning rest) ≡ true
+  meant h = subst (λ ss. have_meaning ss ≡ true) is h
 
-  pub first_levelled : IsTrue (are_levelled lines) → IsTrue (is_levelled_head head)
-  first_levelled h = (and_parts (is_levelled_head head) (are_levelled block) (and_parts (is_levelled_head head && are_levelled block) (are_levelled rest) (levelled h)).0).0
+  pub first_meant : IsTrue (have_meaning lines) → IsTrue (head_has_meaning head)
+  first_meant h = (and_parts (head_has_meaning head) (have_meaning block) (and_parts (head_has_meaning head && have_meaning block) (have_meaning rest) (meant h)).0).0
 
-  pub rest_levelled : IsTrue (are_levelled lines) → IsTrue (are_levelled rest)
-  rest_levelled h = (and_parts (is_levelled_head head && are_levelled block) (are_levelled rest) (levelled h)).1
+  pub rest_meant : IsTrue (have_meaning lines) → IsTrue (have_meaning rest)
+  rest_meant h = (and_parts (head_has_meaning head && have_meaning block) (have_meaning rest) (meant h)).1
 
   pub first_binds : (x : Name) → is_among x (head_binds head) ≡ true → is_among x (bound lines) ≡ true
   first_binds x h = ap (λ ss. is_among x (bound ss)) is ∙ among_left x (head_binds head ++ bound block) (bound rest) (among_left x (head_binds head) (bound block) h)

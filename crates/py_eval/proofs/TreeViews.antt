@@ -11,7 +11,7 @@ use Rattle.py_tree.specs.declared.expr.Expr.{Expr, roll-Expr, fold-roll-Expr}
 use Rattle.py_tree.specs.declared.expr.Expr.TheVariants.{Add, Attribute, Call}
 use Rattle.py_tree.specs.declared.expr.Expr.TheVariants as variant
 use Rattle.py_tree.specs.ExprView.{argument_step, expr_step, piece_step, link_step, pair_step}
-use Rattle.py_tree.specs.Levels.{is_levelled, are_levelled_arguments, level}
+use Rattle.py_tree.specs.Meant.{has_meaning, arguments_have_meaning, level}
 use Rattle.py_tree.specs.Names.{Name}
 use Rattle.py_tree.specs.Trees.{Tree, Arguments, positional, name, binary, attribute, call}
 use Rattle.py_tree.specs.Trees as pure
@@ -26,9 +26,9 @@ pub is_sum : (e a b a' b' : Expr) → e ≡ Add a b → a' ≡ a → b' ≡ b �
 is_sum e a b a' b' is left right = ap view is ∙ view_sum a b ∙ λ i. binary pure.Add (view (sym left i)) (view (sym right i))
 
 -- the right side of a sum that is spelled well
-pub right_levelled : (e a b b' : Expr) → b' ≡ b → e ≡ Add a b → IsTrue (is_levelled (view e)) → IsTrue (is_levelled (view b'))
-right_levelled e a b b' right is h =
-    (and_parts (is_levelled (view a) && nat_lt 6 (level (view b'))) (is_levelled (view b')) (subst (λ t. IsTrue (is_levelled t)) (is_sum e a b a b' is refl right) h)).1
+pub right_meant : (e a b b' : Expr) → b' ≡ b → e ≡ Add a b → IsTrue (has_meaning (view e)) → IsTrue (has_meaning (view b'))
+right_meant e a b b' right is h =
+    (and_parts (has_meaning (view a) && nat_lt 6 (level (view b'))) (has_meaning (view b')) (subst (λ t. IsTrue (has_meaning t)) (is_sum e a b a b' is refl right) h)).1
 
 view_attribute : (a : Expr) (x : Name) → view (Attribute a x) ≡ attribute (view a) x
 unfolding roll-Expr roll
@@ -56,9 +56,9 @@ pub is_call : (e a a' : Expr) (args args' : List Argument) (comma : Bool) → e 
 is_call e a a' args args' comma is callee same = ap view is ∙ view_call a args comma ∙ λ i. call (view (sym callee i)) (view_arguments (sym same i)) comma
 
 -- the arguments of a call that is spelled well
-pub arguments_levelled : (t : Tree) (callee : Tree) (args : Arguments) (comma : Bool) → t ≡ call callee args comma → IsTrue (is_levelled t) → IsTrue (are_levelled_arguments args)
-arguments_levelled t callee args comma is h =
-    (and_parts (is_levelled callee && nat_lt 9 (level callee)) (are_levelled_arguments args) (subst (λ t. IsTrue (is_levelled t)) is h)).1
+pub arguments_meant : (t : Tree) (callee : Tree) (args : Arguments) (comma : Bool) → t ≡ call callee args comma → IsTrue (has_meaning t) → IsTrue (arguments_have_meaning args)
+arguments_meant t callee args comma is h =
+    (and_parts (has_meaning callee && nat_lt 9 (level callee)) (arguments_have_meaning args) (subst (λ t. IsTrue (has_meaning t)) is h)).1
 
 view_positional : (e : Expr) (rest : Arguments) → view_argument (Positional e) rest ≡ positional (view e) rest
 unfolding roll-Argument roll
@@ -75,5 +75,5 @@ module _ (args : List Argument) (i : ℕ) (a : Argument) (lt : i < length args) 
       ∙ view_positional e _ ∙ λ j. positional (view (sym same j)) (view_arguments (drop (i + 1) args))
 
 module _ (args rest : Arguments) (t : Tree) (is : args ≡ positional t rest) where
-  pub rest_levelled : IsTrue (are_levelled_arguments args) → IsTrue (are_levelled_arguments rest)
-  rest_levelled h = (and_parts (is_levelled t) (are_levelled_arguments rest) (subst (λ args. IsTrue (are_levelled_arguments args)) is h)).1
+  pub rest_meant : IsTrue (arguments_have_meaning args) → IsTrue (arguments_have_meaning rest)
+  rest_meant h = (and_parts (has_meaning t) (arguments_have_meaning rest) (subst (λ args. IsTrue (arguments_have_meaning args)) is h)).1

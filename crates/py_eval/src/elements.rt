@@ -5,7 +5,7 @@ ghost use Rattle.run_meaning.specs.Meaning as meaning;
 ghost use Rattle.run_meaning.specs.Spending.{spend};
 ghost use Rattle.py_eval.specs.Meets.{Meets, unit};
 ghost use Rattle.py_eval.specs.Shows.{scene_of};
-ghost use Rattle.py_tree.specs.Levels.{are_levelled_arguments};
+ghost use Rattle.py_tree.specs.Meant.{arguments_have_meaning};
 ghost use Rattle.py_tree.specs.Names.{is_among};
 ghost use Rattle.py_tree.specs.View.{view, view_arguments};
 ghost use Rattle.py_value.specs.Maps.{look_up};
@@ -31,7 +31,7 @@ pub fn call_value(
     line: u32,
     left: &mut u64,
 ) -> Result<Value, Halt>
-    requires { IsTrue (are_levelled_arguments (view_arguments arguments.now)) }
+    requires { IsTrue (arguments_have_meaning (view_arguments arguments.now)) }
     ensures meets { Meets (λ v. v) result left.new
         (spend (calls_for (scene_of scene.now) env.now line targets.now (view callee.now)
         (view_arguments arguments.now)) left.old []) }
@@ -81,7 +81,7 @@ fn element(
     line: u32,
     left: &mut u64,
 ) -> Result<Value, Halt>
-    requires { IsTrue (are_levelled_arguments (view_arguments arguments.now)) }
+    requires { IsTrue (arguments_have_meaning (view_arguments arguments.now)) }
     ensures meets { Meets (λ v. v) result left.new
         (spend (element_of (scene_of scene.now) env.now line name.now kind
         (view_arguments arguments.now)) left.old []) }

@@ -7,7 +7,7 @@ ghost use Rattle.run_meaning.specs.Spending.{spend};
 ghost use Rattle.run_meaning.specs.Trace.{◌>>=◌ as ◌followed_by◌};
 ghost use Rattle.py_eval.specs.Meets.{Meets};
 ghost use Rattle.py_eval.specs.Shows.{scene_of};
-ghost use Rattle.py_tree.specs.Levels.{is_levelled, are_levelled_arguments};
+ghost use Rattle.py_tree.specs.Meant.{has_meaning, arguments_have_meaning};
 ghost use Rattle.py_tree.specs.Trees as trees;
 ghost use Rattle.py_tree.specs.View.{view, view_arguments};
 ghost use Rattle.py_value.specs.Maps.{look_up};
@@ -30,7 +30,7 @@ pub fn eval(
     line: u32,
     left: &mut u64,
 ) -> Result<Value, Halt>
-    requires { IsTrue (is_levelled (view tree.now)) }
+    requires { IsTrue (has_meaning (view tree.now)) }
     ensures meets { Meets (λ v. v) result left.new
         (spend (value_of (scene_of scene.now) env.now line (view tree.now)) left.old []) }
     ensures used { left.new ≤ left.old }
@@ -68,7 +68,7 @@ pub fn eval_all(
     line: u32,
     left: &mut u64,
 ) -> Result<Vec<Value>, Halt>
-    requires { IsTrue (are_levelled_arguments (view_arguments arguments.now)) }
+    requires { IsTrue (arguments_have_meaning (view_arguments arguments.now)) }
     ensures meets { Meets (λ vs. vs.items) result left.new
         (spend (values_after [] (scene_of scene.now) env.now line (view_arguments arguments.now)) left.old []) }
     ensures used { left.new ≤ left.old }

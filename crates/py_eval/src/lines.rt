@@ -5,7 +5,7 @@ ghost use Rattle.run_meaning.specs.Meaning as meaning;
 ghost use Rattle.run_meaning.specs.Spending.{spend};
 ghost use Rattle.py_eval.specs.Meets.{Meets};
 ghost use Rattle.py_eval.specs.Shows.{scene_of};
-ghost use Rattle.py_tree.specs.Levels.{is_levelled, is_levelled_head, are_levelled};
+ghost use Rattle.py_tree.specs.Meant.{has_meaning, head_has_meaning, have_meaning};
 ghost use Rattle.py_tree.specs.Names.{is_among};
 ghost use Rattle.py_tree.specs.Scope.{head_binds, bound};
 ghost use Rattle.py_tree.specs.View.{view, view_head, view_stmts};
@@ -28,7 +28,7 @@ pub fn run_lines(
     env: &mut Env,
     left: &mut u64,
 ) -> Result<Option<Value>, Halt>
-    requires { IsTrue (are_levelled (view_stmts stmts.now)) }
+    requires { IsTrue (have_meaning (view_stmts stmts.now)) }
     ensures meets { Meets (λ last. record { last = last; env = env.new }) result left.new
         (spend (block_of (scene_of scene.now) env.old (view_stmts stmts.now)) left.old []) }
     ensures kept { where_name (λ x. not (is_among x (bound (view_stmts stmts.now)))) env.new
@@ -52,7 +52,7 @@ fn run_line(
     env: &mut Env,
     left: &mut u64,
 ) -> Result<Option<Value>, Halt>
-    requires { IsTrue (is_levelled_head (view_head line.now)) }
+    requires { IsTrue (head_has_meaning (view_head line.now)) }
     ensures meets { Meets (λ last. record { last = last; env = env.new }) result left.new
         (spend (head_of (scene_of scene.now) env.old number (view_head line.now)) left.old []) }
     ensures kept { where_name (λ x. not (is_among x (head_binds (view_head line.now)))) env.new
@@ -86,7 +86,7 @@ fn right_side(
     line: u32,
     left: &mut u64,
 ) -> Result<Value, Halt>
-    requires { IsTrue (is_levelled (view tree.now)) }
+    requires { IsTrue (has_meaning (view tree.now)) }
     ensures meets { Meets (λ v. v) result left.new
         (spend (right_of (scene_of scene.now) env.now line targets.now
         (view tree.now)) left.old []) }

@@ -2,7 +2,7 @@
 ghost use Rattle.std.specs.Prelude.{◌≡◌, ◌+◌, IfOk, IsTrue, OnErr, not};
 ghost use Rattle.run_meaning.specs.Spending.{runs};
 ghost use Rattle.py_eval.specs.Shows.{Shows, scene_of};
-ghost use Rattle.py_tree.specs.Levels.{are_levelled};
+ghost use Rattle.py_tree.specs.Meant.{have_meaning};
 ghost use Rattle.py_tree.specs.Names.{is_among};
 ghost use Rattle.py_tree.specs.Scope.{bound};
 ghost use Rattle.py_tree.specs.View.{view_block};
@@ -48,7 +48,7 @@ pub fn run_block<L: Ledger>(
     left: u64,
     steps: &mut Steps<L>,
 ) -> Result<Ran, Memory>
-    requires { IsTrue (are_levelled (view_block block.now)) }
+    requires { IsTrue (have_meaning (view_block block.now)) }
     ensures run { IfOk result
         (λ r. Shows r env.new left
         (runs (scene_of scene.now) env.old (view_block block.now) left)) }

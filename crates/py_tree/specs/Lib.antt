@@ -3,7 +3,7 @@ pub mod ExprView
 pub mod Expressions
 pub mod FieldFormats
 pub mod FieldView
-pub mod Levels
+pub mod Meant
 pub mod Names
 pub mod Numbers
 pub mod Scope

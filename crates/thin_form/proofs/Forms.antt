@@ -8,7 +8,7 @@ use Rattle.form_meaning.specs.Thin as thin
 use Rattle.py_tree.specs.Elements.{is_mo, is_mo_ui}
 use Rattle.form_meaning.specs.Thin.{Elements, is_term, is_maker, is_number_tree, makes_slider}
 use Rattle.py_tree.proofs.NamesOf.{name_of}
-use Rattle.py_tree.specs.Levels.{is_literal}
+use Rattle.py_tree.specs.Meant.{is_literal}
 use Rattle.py_tree.specs.Names.{Name, is_name}
 use Rattle.py_tree.specs.Numbers.{is_number, number_of}
 use Rattle.py_tree.specs.Trees.{Tree, literal, name, attribute, call, Arguments, no_argument, positional}

@@ -8,7 +8,7 @@ use Rattle.py_tree.specs.Names.{is_name_byte, is_name, is_plain_name, Name, is_d
 use Rattle.thin_form.specs.Sums.{value_of, read_term, read_more, read_sum}
 use Rattle.thin_form.specs.Words.{target}
 use Rattle.form_meaning.specs.Thin.{Elements, is_term, is_chain, is_sum, terms, tree_text}
-use Rattle.py_tree.specs.Levels.{is_literal}
+use Rattle.py_tree.specs.Meant.{is_literal}
 use Rattle.py_tree.specs.Numbers.{is_number}
 use Rattle.py_tree.specs.Trees.{Tree, literal, name, binary, Add, attribute, call}
 use Rattle.py_tree.specs.declared.token.TokenKind.{TokenKind}

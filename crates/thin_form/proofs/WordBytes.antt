@@ -7,7 +7,7 @@ use Rattle.std.proofs.lemmas.Bool.Decides.{nat_tests}
 use Rattle.std.proofs.lemmas.List.Folds.{list_all-append}
 use Rattle.thin_form.specs.Sliders.{Bounds, slider, are_bounds}
 use Rattle.form_meaning.specs.Thin.{Elements, is_term, is_chain, makes_slider, is_line, tree_text}
-use Rattle.py_tree.specs.Levels.{is_literal}
+use Rattle.py_tree.specs.Meant.{is_literal}
 use Rattle.py_tree.specs.Names.{Name, is_digit, is_lower, is_plain_name, is_name}
 use Rattle.py_tree.specs.Numbers.{is_number}
 use Rattle.py_tree.specs.Trees.{Tree, literal, name, binary, Add, attribute, call, Head, value, assign, import_mo}

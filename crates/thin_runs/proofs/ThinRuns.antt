@@ -27,7 +27,7 @@ elements_defined nb c x thin h = by (slice_get nb c) refl h
 pub thin_runnable : (nb : List Cell) → are_thin nb ≡ true → Runnable nb
 thin_runnable nb thin = record {
   few = omega (arith, thin_few nb thin);
-  levelled = λ c code e. (thin_good nb c code thin e).0;
+  meant = λ c code e. (thin_good nb c code thin e).0;
   plain = λ c code e. (thin_good nb c code thin e).1;
   by_reads = λ budget ui may_run c code env env' e bind bind' agree.
       let t = thin_cell nb c code thin e in

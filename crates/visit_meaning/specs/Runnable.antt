@@ -2,7 +2,7 @@
 use Rattle.std.specs.Prelude.{◌≡◌, ℕ, ◌+◌, ◌^◌, ◌<◌, Bool, true, false, not, List, length, Option, Some, None, slice_get}
 use Rattle.std.specs.List.{list_all}
 use Rattle.py_tree.specs.Elements.{elements}
-use Rattle.py_tree.specs.Levels.{are_levelled}
+use Rattle.py_tree.specs.Meant.{have_meaning}
 use Rattle.py_tree.specs.Names.{Name, is_among, is_local}
 use Rattle.py_tree.specs.Scope.{bound, defs}
 use Rattle.py_tree.specs.Trees.{Cell}
@@ -56,8 +56,8 @@ IsMade ui x env = (e : ElementData) × (element_in env x ≡ Some e) × (at_kept
 pub record Runnable (nb : List Cell) : Type 0 where
   -- The cells, and one frame more, are counted in 32 bits.
   pub few : length nb + 1 < 2 ^ 32
-  -- Each block is levelled: its operands bind as tightly as their places ask for.
-  pub levelled : (c : ℕ) (code : Cell) → slice_get nb c ≡ Some code → are_levelled code.body ≡ true
+  -- Each block has a meaning: its forms have one, and operands bind as tightly as their places ask for.
+  pub meant : (c : ℕ) (code : Cell) → slice_get nb c ≡ Some code → have_meaning code.body ≡ true
   -- No cell binds a name with a leading underscore.
   pub plain : (c : ℕ) (code : Cell) → slice_get nb c ≡ Some code → list_all (λ x. not (is_local x)) (bound code.body) ≡ true
   -- What a cell does depends on the bindings only at the names that it may read.

@@ -9,7 +9,7 @@ ghost use Rattle.run_meaning.specs.Spending.{cost_of};
 ghost use Rattle.visit_meaning.specs.Underway.{ended};
 ghost use Rattle.visit_meaning.specs.Whole as whole;
 ghost use Rattle.py_tree.specs.Elements.{elements};
-ghost use Rattle.py_tree.specs.Levels.{are_levelled};
+ghost use Rattle.py_tree.specs.Meant.{have_meaning};
 ghost use Rattle.py_tree.specs.Names.{is_among, is_local};
 ghost use Rattle.py_tree.specs.Scope as scope;
 ghost use Rattle.py_tree.specs.Trees.{Cell};
@@ -74,7 +74,7 @@ impl<'n> KernelState<'n> {
         own: &Lines,
         steps: &mut Steps<L>,
     ) -> Result<CellFrame, Memory>
-        requires levelled { IsTrue (are_levelled (view_block code.now.body)) }
+        requires meant { IsTrue (have_meaning (view_block code.now.body)) }
         requires plain_code { IsTrue
             (list_all (λ x. not (is_local x)) (scope.bound (view_block code.now.body))) }
         requires plain { IsPlain self.old.env }

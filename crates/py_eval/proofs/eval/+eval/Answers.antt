@@ -1,11 +1,11 @@
 -- Each way through a sum and an attribute.
 use Rattle.std.proofs.Common.{arith, ◌≡◌, IsTrue, refl, sym, ◌∙◌, true, codes}
 use Rattle.std.specs.Str.{bytes_eq}
-use Rattle.py_tree.specs.Levels.{is_levelled}
+use Rattle.py_tree.specs.Meant.{has_meaning}
 use Rattle.py_tree.specs.Trees.{name, binary, Add, attribute}
 use Rattle.py_tree.specs.View.{view}
 use Rattle.py_eval.proofs.Sequence.{exit, onward, paid}
-use Rattle.py_eval.proofs.TreeViews.{is_sum, is_attribute, is_attribute_of_name, right_levelled}
+use Rattle.py_eval.proofs.TreeViews.{is_sum, is_attribute, is_attribute_of_name, right_meant}
 use Rattle.py_eval.proofs.eval.+eval.Goals as goal
 
 pub returns-in_err-x-in-Add-clause-meets : goal.returns-in_err-x-in-Add-clause-meets
@@ -28,8 +28,8 @@ returns-in_ok-y-in-Add-clause-meets t c =
 
 pub eval-requires-in-Add : goal.eval-requires-in-Add
 eval-requires-in-Add t c =
-    let levelled : IsTrue (is_levelled (view c.get-in-Add.result.now)) = right_levelled _ _ _ _ c.get-in-Add.ensures c.in-Add.is c.requires in
-    (omega (arith, c.in_ok-charge.ensures.paid, c.in_ok-x-in-Add.ensures.used), levelled)
+    let meant : IsTrue (has_meaning (view c.get-in-Add.result.now)) = right_meant _ _ _ _ c.get-in-Add.ensures c.in-Add.is c.requires in
+    (omega (arith, c.in_ok-charge.ensures.paid, c.in_ok-x-in-Add.ensures.used), meant)
 
 pub returns-in-Name-get-clause-meets : goal.returns-in-Name-get-clause-meets
 returns-in-Name-get-clause-meets t c =

@@ -3,7 +3,7 @@ use Rattle.std.proofs.Common.{◌≡◌, ◌≤◌, [], drop, IsTrue}
 use Rattle.run_meaning.specs.Meaning.{values_after}
 use Rattle.run_meaning.specs.Spending.{spend}
 use Rattle.py_eval.specs.Shows.{scene_of}
-use Rattle.py_tree.specs.Levels.{are_levelled_arguments}
+use Rattle.py_tree.specs.Meant.{arguments_have_meaning}
 use Rattle.py_tree.specs.View.{view_arguments}
 use Rattle.py_eval.proofs.eval.eval_all.Given as goal
 
@@ -12,6 +12,6 @@ invariant-loop-argument l =
     let rest = view_arguments (drop l.argument-index l.arguments) in
     record {
       meets : spend (values_after l.values.items (scene_of l.scene) l.env l.line rest) l.left [] ≡ spend (values_after [] (scene_of l.scene) l.env l.line (view_arguments l.arguments)) l.fn.left [];
-      levelled : IsTrue (are_levelled_arguments rest);
+      meant : IsTrue (arguments_have_meaning rest);
       used : l.left ≤ l.fn.left;
     }

@@ -3,7 +3,7 @@ use Rattle.std.proofs.Common.{◌≡◌, ℕ, ◌≤◌, [], List, drop, not, tr
 use Rattle.run_meaning.specs.Meaning.{lines_of, block_of}
 use Rattle.run_meaning.specs.Spending.{spend}
 use Rattle.py_eval.specs.Shows.{scene_of}
-use Rattle.py_tree.specs.Levels.{are_levelled}
+use Rattle.py_tree.specs.Meant.{have_meaning}
 use Rattle.py_tree.specs.Names.{is_among}
 use Rattle.py_tree.specs.Scope.{bound}
 use Rattle.py_tree.specs.View.{view_stmts}
@@ -16,7 +16,7 @@ invariant-loop-stmt l =
     let all = view_stmts l.stmts in
     record {
       meets : spend (lines_of (scene_of l.scene) lines (record { last = l.last; env = l.env })) l.left [] ≡ spend (block_of (scene_of l.scene) l.fn.env all) l.fn.left [];
-      levelled : IsTrue (are_levelled lines);
+      meant : IsTrue (have_meaning lines);
       binds : (x : List ℕ) → is_among x (bound lines) ≡ true → is_among x (bound all) ≡ true;
       kept : where_name (λ x. not (is_among x (bound all))) l.env ≡ where_name (λ x. not (is_among x (bound all))) l.fn.env;
       used : l.left ≤ l.fn.left;

@@ -35,10 +35,10 @@ returns-then-not-all_ok-clause-steps g c code e =
 pub returns-then-not-all_ok-clause-plain : goal.returns-then-not-all_ok-clause-plain
 returns-then-not-all_ok-clause-plain g c = plain_without c.defs_of-defs.result.now c.args.self.now.env c.forget.new.env c.requires.plain c.forget.ensures
 
-pub run_code-requires-clause-levelled : goal.run_code-requires-clause-levelled
-run_code-requires-clause-levelled g c =
+pub run_code-requires-clause-meant : goal.run_code-requires-clause-meant
+run_code-requires-clause-meant g c =
     let at = code_at c.args.self.now.notebook.now c.args.cell c.index-cells-cell.result c.requires.there (c.index-cells-cell.is ∙ ap (λ xs. get_or xs c.args.cell c.index-cells-cell.result) c.cells.ensures.cells) in
-    c.requires.runnable.levelled c.args.cell (view_cell c.index-cells-cell.result) at
+    c.requires.runnable.meant c.args.cell (view_cell c.index-cells-cell.result) at
 
 pub run_code-requires-clause-plain_code : goal.run_code-requires-clause-plain_code
 run_code-requires-clause-plain_code g c =

@@ -1,4 +1,4 @@
--- How tightly trees bind, and the trees that are spelled well, of the forms that have a meaning.
+-- The trees that have a meaning today, and how tightly these bind. What the whole grammar has stands in `syntax_form`.
 use Rattle.std.specs.Prelude.{ℕ, Bool, true, false, ◌&&◌, nat_lt, List, [], ◌∷◌}
 use Rattle.std.specs.List.{list_all}
 use Rattle.py_tree.specs.Names.{is_identifier}
@@ -24,34 +24,35 @@ is_literal kind.Number spelling = is_number spelling
 is_literal kind.Text spelling = false
 is_literal kind.Mark spelling = false
 
--- Each operand binds as tightly as its place asks for, each name is one and no keyword, and each literal is spelled as one.
+-- Each form has a meaning, each operand binds as tightly as its place asks for, each name is one and no keyword, and each literal is a number,
+-- spelled as one.
 -- A sum groups to the left: its right side binds more tightly than a sum. What stands before a dot or a bracket binds as tightly
 -- as these.
 abbrev mutual
-  pub is_levelled : Tree → Bool
-  is_levelled (literal token) = is_literal token.kind token.spelling
-  is_levelled (name x) = is_identifier x
-  is_levelled (binary Add a b) = is_levelled a && nat_lt 6 (level b) && is_levelled b
-  is_levelled (attribute base x) = is_levelled base && nat_lt 9 (level base) && is_identifier x
-  is_levelled (call callee args comma) = is_levelled callee && nat_lt 9 (level callee) && are_levelled_arguments args
-  is_levelled t = false
+  pub has_meaning : Tree → Bool
+  has_meaning (literal token) = is_literal token.kind token.spelling
+  has_meaning (name x) = is_identifier x
+  has_meaning (binary Add a b) = has_meaning a && nat_lt 6 (level b) && has_meaning b
+  has_meaning (attribute base x) = has_meaning base && nat_lt 9 (level base) && is_identifier x
+  has_meaning (call callee args comma) = has_meaning callee && nat_lt 9 (level callee) && arguments_have_meaning args
+  has_meaning t = false
 
-  pub are_levelled_arguments : Arguments → Bool
-  are_levelled_arguments no_argument = true
-  are_levelled_arguments (positional t args) = is_levelled t && are_levelled_arguments args
-  are_levelled_arguments args = false
+  pub arguments_have_meaning : Arguments → Bool
+  arguments_have_meaning no_argument = true
+  arguments_have_meaning (positional t args) = has_meaning t && arguments_have_meaning args
+  arguments_have_meaning args = false
 
 -- one or more names
 abbrev pub are_targets : List (List ℕ) → Bool
 are_targets [] = false
 are_targets (x ∷ xs) = list_all is_identifier (x ∷ xs)
 
-abbrev pub is_levelled_head : Head → Bool
-is_levelled_head (value t) = is_levelled t
-is_levelled_head (assign targets t) = are_targets targets && is_levelled t
-is_levelled_head import_mo = true
-is_levelled_head h = false
+abbrev pub head_has_meaning : Head → Bool
+head_has_meaning (value t) = has_meaning t
+head_has_meaning (assign targets t) = are_targets targets && has_meaning t
+head_has_meaning import_mo = true
+head_has_meaning h = false
 
-abbrev pub are_levelled : Stmts → Bool
-are_levelled end = true
-are_levelled (then_comes (stmt n head block) rest) = is_levelled_head head && are_levelled block && are_levelled rest
+abbrev pub have_meaning : Stmts → Bool
+have_meaning end = true
+have_meaning (then_comes (stmt n head block) rest) = head_has_meaning head && have_meaning block && have_meaning rest
