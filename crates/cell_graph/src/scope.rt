@@ -44,7 +44,9 @@ fn add_reads<'a>(names: &mut Vec<&'a str>, expr: &'a Expr) -> Result<(), Memory>
         }
         Expr::Attribute(base, _) => add_reads(names, base.get()),
         Expr::Call {
-            callee, arguments, ..
+            callee,
+            arguments,
+            ..
         } => {
             add_reads(names, callee.get())?;
             for argument in arguments.items() {

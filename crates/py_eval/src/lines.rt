@@ -94,7 +94,9 @@ fn right_side(
 {
     match tree {
         Expr::Call {
-            callee, arguments, ..
+            callee,
+            arguments,
+            ..
         } => {
             let arguments = arguments.items();
             call_value(

@@ -16,7 +16,11 @@ use std::alloc::Global;
 const MAX_TERMS: u32 = 32;
 
 // The sum that the text spells: at most `MAX_TERMS` terms, each but the first behind ` + `.
-pub fn read_sum(alloc: Global, text: &str, elements: &SliderNames) -> Result<Option<Boxed<Expr>>, Memory>
+pub fn read_sum(
+    alloc: Global,
+    text: &str,
+    elements: &SliderNames,
+) -> Result<Option<Boxed<Expr>>, Memory>
     ensures { IfOk result
         (λ o. option_map view o ≡ reading.read_sum (as_elements elements.now) (words text.now)) }
 {
@@ -72,7 +76,11 @@ fn next_term(text: &str) -> Option<(&str, Option<&str>)>
 }
 
 // The name, the number or the value of a slider that the word is.
-fn read_term(alloc: Global, word: &str, elements: &SliderNames) -> Result<Option<Boxed<Expr>>, Memory>
+fn read_term(
+    alloc: Global,
+    word: &str,
+    elements: &SliderNames,
+) -> Result<Option<Boxed<Expr>>, Memory>
     ensures { IfOk result
         (λ o. option_map view o ≡ reading.read_term (as_elements elements.now) word.now) }
 {
@@ -89,7 +97,11 @@ fn read_term(alloc: Global, word: &str, elements: &SliderNames) -> Result<Option
 }
 
 // `NAME.value`, where the word is this and the name is that of a slider.
-fn read_value(alloc: Global, word: &str, elements: &SliderNames) -> Result<Option<Boxed<Expr>>, Memory>
+fn read_value(
+    alloc: Global,
+    word: &str,
+    elements: &SliderNames,
+) -> Result<Option<Boxed<Expr>>, Memory>
     ensures { IfOk result
         (λ o. option_map view o ≡ reading.read_value (as_elements elements.now) word.now) }
 {

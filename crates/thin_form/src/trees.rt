@@ -33,11 +33,7 @@ pub fn numeral(alloc: Global, word: &str) -> Result<Boxed<Expr>, Memory>
 }
 
 // The sum of the two.
-pub fn sum(
-    alloc: Global,
-    left: Boxed<Expr>,
-    right: Boxed<Expr>,
-) -> Result<Boxed<Expr>, Memory>
+pub fn sum(alloc: Global, left: Boxed<Expr>, right: Boxed<Expr>) -> Result<Boxed<Expr>, Memory>
     ensures { IfOk result (λ e. view e ≡ pure.binary pure.Add (view left) (view right)) }
 {
     Ok(Boxed::new(alloc, Expr::Add(left, right))?)
@@ -62,11 +58,7 @@ pub fn slider(alloc: Global, low: &str, high: &str) -> Result<Boxed<Expr>, Memor
 }
 
 // `CALLEE(ARGUMENTS)`
-fn call(
-    alloc: Global,
-    callee: Boxed<Expr>,
-    arguments: Vec<Argument>,
-) -> Result<Boxed<Expr>, Memory>
+fn call(alloc: Global, callee: Boxed<Expr>, arguments: Vec<Argument>) -> Result<Boxed<Expr>, Memory>
     ensures { IfOk result
         (λ e. view e ≡ pure.call (view callee) (view_arguments arguments.items) false) }
 {
@@ -94,11 +86,7 @@ pub fn value_line(alloc: Global, value: Boxed<Expr>) -> Result<Boxed<Line>, Memo
 }
 
 // `NAME = VALUE`
-pub fn assignment(
-    alloc: Global,
-    name: Spelling,
-    value: Boxed<Expr>,
-) -> Result<Boxed<Line>, Memory>
+pub fn assignment(alloc: Global, name: Spelling, value: Boxed<Expr>) -> Result<Boxed<Line>, Memory>
     ensures { IfOk result (λ l. view_head l ≡ pure.assign (name ∷ []) (view value)) }
 {
     let mut targets = Vec::new(alloc);

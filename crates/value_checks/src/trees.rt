@@ -38,11 +38,7 @@ pub fn named(alloc: Global, text: &str) -> Result<Boxed<Expr>, Memory>
     boxed(alloc, Expr::Name(spelled(alloc, text)?))
 }
 
-pub fn added(
-    alloc: Global,
-    left: Boxed<Expr>,
-    right: Boxed<Expr>,
-) -> Result<Boxed<Expr>, Memory>
+pub fn added(alloc: Global, left: Boxed<Expr>, right: Boxed<Expr>) -> Result<Boxed<Expr>, Memory>
     ensures { IfOk result (λ e. view e ≡ binary Add (view left) (view right)) }
 {
     boxed(alloc, Expr::Add(left, right))
