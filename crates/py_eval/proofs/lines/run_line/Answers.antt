@@ -35,3 +35,9 @@ returns-in_ok-put-in-ImportMo-clause-kept c =
     let name : c.in_ok-name-in-ImportMo.name ≡ codes "mo" = c.in_ok-name-in-ImportMo.ensures in
     rw (ap view_head c.in-ImportMo.is)
     (ap (where_name others) (c.in_ok-put-in-ImportMo.ensures.ok ∙ ap (λ x. put x Module c.args.env.now) name) ∙ kept_put others (codes "mo") Module c.args.env.now refl)
+
+pub returns-in_err-bind_targets-in-Assign-clause-kept : goal.returns-in_err-bind_targets-in-Assign-clause-kept
+returns-in_err-bind_targets-in-Assign-clause-kept c = rw (ap view_head c.in-Assign.is, ← c.items-names.ensures) c.in_err-bind_targets-in-Assign.ensures.kept
+
+pub returns-in_ok-bind_targets-in-Assign-clause-kept : goal.returns-in_ok-bind_targets-in-Assign-clause-kept
+returns-in_ok-bind_targets-in-Assign-clause-kept c = rw (ap view_head c.in-Assign.is, ← c.items-names.ensures) c.in_ok-bind_targets-in-Assign.ensures.kept
