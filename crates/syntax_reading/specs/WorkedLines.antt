@@ -22,7 +22,8 @@ value_rows =
     ∷ row "(x).append(1)" (value (call (attribute (paren (named "x")) (codes "append")) (positional (number "1") no_argument) false))
     ∷ row "x.y.append(1)" (value (call (attribute (attribute (named "x") (codes "y")) (codes "append")) (positional (number "1") no_argument) false))
     -- Python takes these
-    ∷ all_refused ("assert a" ∷ "del x" ∷ "raise a" ∷ "yield a" ∷ "await a" ∷ "*a, b" ∷ "x.append(*a)" ∷ [])
+    ∷ all_refused ("assert a" ∷ "del x" ∷ "raise a" ∷ "yield a" ∷ "await a" ∷ "*a, b" ∷ "x.append(*a)" ∷ "lambda: 1" ∷ "a @ b" ∷ "x[1, 2]" ∷
+    "(a := 1)" ∷ [])
     ++ all_refused ("a b" ∷ "a := 1" ∷ "lambda" ∷ [])
 
 -- ---- assignments
