@@ -1,5 +1,5 @@
 -- Which expression may stand where: an operand binds as tightly as its place asks for, or more tightly (Python language reference, section 6).
--- A tuple without brackets is no operand. What its names, literals and f-texts have to be is handed in.
+-- A tuple without brackets is no operand. The parameters say what names, literals and f-texts have to be.
 use Rattle.std.specs.Prelude.{ℕ, ◌+◌, ◌≤◌, List, ⊤}
 use Rattle.py_tree.specs.Names.{Name}
 use Rattle.py_tree.specs.declared.token.TokenKind.{TokenKind}

@@ -1,5 +1,6 @@
--- The lines of the grammar: which expressions, names and texts they have. A tuple without brackets stands where a whole line is one, behind `=`,
--- behind `return`, and behind the `in` of a `for`. As in `Grouping`, what names, literals and f-texts have to be is handed in.
+-- Which lines the grammar has: what their expressions, names, arguments and texts may be (Python language reference, sections 7 and 8). A tuple
+-- without brackets is a whole line, or stands behind the `=` of targets, behind `return` or behind the `in` of a `for`. As in `Grouping`, the
+-- parameters say what names, literals and f-texts have to be.
 use Rattle.std.specs.Prelude.{ℕ, ◌≤◌, Bool, List, ⊤}
 use Rattle.py_tree.specs.Names.{Name}
 use Rattle.py_tree.specs.declared.token.TokenKind.{TokenKind}

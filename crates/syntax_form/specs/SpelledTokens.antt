@@ -2,7 +2,7 @@
 use Rattle.std.specs.Prelude.{List, [], ◌∷◌, ⊤}
 use Rattle.lexical_form.specs.Longest.{Stands}
 use Rattle.lexical_form.specs.LogicalLines.{Line}
-use Rattle.lexical_form.specs.Tokens.{Token, Tokens, no_token, then_token}
+use Rattle.lexical_form.specs.Tokens.{Token}
 
 -- each may stand alone
 abbrev pub AreTokens : List Token → Type 0
@@ -13,8 +13,3 @@ AreTokens (t ∷ ts) = Stands t [] × AreTokens ts
 abbrev pub HoldTokens : List Line → Type 0
 HoldTokens [] = ⊤
 HoldTokens (l ∷ ls) = AreTokens l.tokens × HoldTokens ls
-
--- the tokens of a field
-abbrev pub token_list : Tokens → List Token
-token_list no_token = []
-token_list (then_token t ts) = t ∷ token_list ts

@@ -1,4 +1,4 @@
-//! Expressions of the whole language: what spells them, how deep they are, and which the grammar has.
+//! Expressions and lines of the whole language: what spells them, how deep they are, and which the grammar has.
 #![tactic(auto)]
 
 mod laws;

@@ -1,11 +1,8 @@
 -- Reading gives the expression that tokens are, and only that one.
-use Rattle.std.proofs.Common.{◌≡◌, ℕ, ◌≤◌, max, List, [], ◌∷◌, Some, None, refl, sym, ap, ◌∙◌, subst, arith}
+use Rattle.std.proofs.Common.{◌≡◌, ℕ, List, [], ◌∷◌, Some, None, refl, sym, ap, ◌∙◌, subst, arith}
 use Rattle.py_tree.specs.Expressions.{Tree}
 use Rattle.lexical_form.specs.Tokens.{Token}
-use Rattle.syntax_form.specs.Depth.{depth}
 use Rattle.syntax_form.specs.Expressions.{IsExpression}
-use Rattle.syntax_form.specs.Levelled.{Levelled}
-use Rattle.syntax_form.specs.Levels.{level}
 use Rattle.syntax_form.specs.Printing.{tokens}
 use Rattle.syntax_form.specs.SpelledTokens.{AreTokens}
 use Rattle.syntax_reading.specs.Words.{Word, words}
@@ -46,12 +43,3 @@ expression_only limit ts t h =
     let s = levelled_is_shaped t h.levelled in
     let f : Fits 1 limit t = record { shaped = s; high = h.stands; shallow = h.shallow } in
     ap (read_expression limit) h.spelled ∙ (ap (λ ws. alone (read limit E1 ws)) (words_of_tree t s) ∙ ap alone (read_only limit E1 t [] f (omega arith)))
-
--- tokens spell one expression at most
-pub spelled_once : (t u : Tree) → 1 ≤ level t → Levelled t → 1 ≤ level u → Levelled u → tokens t ≡ tokens u → t ≡ u
-spelled_once t u high l other m e =
-    let limit = max (depth t) (depth u) in
-    let one = expression_only limit (tokens t) t (record { stands = high; levelled = l; shallow = omega arith; spelled = refl }) in
-    let two = expression_only limit (tokens t) u (record { stands = other; levelled = m; shallow = omega arith; spelled = e }) in
-    let same_answer : Some t ≡ Some u = sym one ∙ two in
-    cc (same_answer)

@@ -5,18 +5,18 @@ use Rattle.lexical_form.specs.Tokens as kind
 use Rattle.py_tree.specs.Expressions as form
 use Rattle.syntax_reading.specs.Words as is
 use Rattle.py_tree.specs.Names.{Name}
-use Rattle.py_tree.specs.Expressions.{Pieces, no_piece, characters, field, Operator, Prefix, Comparison, Tree, conditional, binary, prefixed, chain, is_none, power, call, index, slice, attribute, paren, tuple, list, dict, list_of, dict_of, bare, Trees, none, more, Links, done, link, Arguments, no_argument, positional, keyword, Pairs, no_pair, pair, Bound, left_out, at, trees_of}
-use Rattle.lexical_form.specs.Tokens.{Token, token, tokens_of}
+use Rattle.py_tree.specs.Expressions.{Pieces, no_piece, characters, field, Tree, paren, tuple, list, dict, list_of, dict_of, Trees, none, no_pair, trees_of}
+use Rattle.lexical_form.specs.Tokens.{Token, tokens_of}
 use Rattle.syntax_form.specs.Printing.{tokens, token_pieces}
 use Rattle.syntax_form.specs.Depth.{piece_depth}
 use Rattle.syntax_form.specs.Shapes.{IsTuple}
-use Rattle.syntax_form.specs.SpelledTokens.{token_list}
-use Rattle.syntax_reading.specs.Words.{literal_of, is_none_spelled, is_free, may_be_literal, Fixed, Word, name, literal, f_text, fixed, other, word_of, words, none_literal, is_none_literal}
+use Rattle.syntax_reading.specs.Words.{is_free, may_be_literal, Fixed, Word, name, literal, f_text, fixed, other, words, token_list}
 use Rattle.syntax_reading.specs.Readers.{Read, Reader, ◌>>=◌, on, by}
 use Rattle.syntax_reading.specs.Items.{items, items_on}
 use Rattle.syntax_reading.specs.Tables.{Level, E1, Bracket, Round, Square, Brace, bracket_of}
 use Rattle.syntax_reading.specs.Parts.{pairs_of}
 use Rattle.syntax_reading.specs.Reading.{nothing_left, with_field, alone, key_item, clause, round, square, brace, bracketed, parts, with_parts, atom}
+use Rattle.syntax_reading.proofs.FieldTokens.{tokens_of_list}
 use Rattle.syntax_reading.proofs.Shaped.{PiecesShaped}
 use Rattle.syntax_reading.proofs.Spelling.{spell_names, spell, spell_tests}
 use Rattle.syntax_reading.proofs.WordLaws.{before_nil, words_same}
@@ -34,10 +34,6 @@ pub is_tuple : (ts : List Tree) (b : Bool) → is_many ts b ≡ true → IsTuple
 is_tuple [] b h = absurd (cc)
 is_tuple (t ∷ []) b h = h
 is_tuple (t ∷ u ∷ ts) b h = tt
-
-tokens_of_list : (ts : kind.Tokens) → tokens_of (token_list ts) ≡ ts
-tokens_of_list kind.no_token = refl
-tokens_of_list (kind.then_token t ts) = ap (kind.then_token t) (tokens_of_list ts)
 
 module _ (inner : Level → Reader Tree) (below : ℕ) (ih : IsSound inner below) where
   abbrev room : ℕ

@@ -16,7 +16,8 @@ use Rattle.syntax_form.specs.Literals.{IsName, IsLiteral, IsFTextSpelling}
 use Rattle.syntax_form.specs.Levelled.{Levelled}
 use Rattle.syntax_form.specs.Printing.{name_token, kind_of, tokens, token_pieces}
 use Rattle.syntax_form.specs.SpelledTokens.{AreTokens}
-use Rattle.syntax_form.proofs.TokenLaws.{tokens_before, tokens_behind, list_of_tokens, FieldsAreTokens, fields_are_tokens}
+use Rattle.syntax_form.proofs.TokenLaws.{tokens_before, tokens_behind}
+use Rattle.syntax_reading.proofs.FieldTokens.{list_of_tokens, FieldsAreTokens, fields_are_tokens}
 use Rattle.syntax_reading.proofs.Shaped.{IsFree, MayBeLiteral, AnyFText, Shaped}
 use Rattle.syntax_reading.proofs.Regrouping.{Fields, Change, regrouped}
 

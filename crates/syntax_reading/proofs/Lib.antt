@@ -1,4 +1,5 @@
--- Words, and how expressions are spelled in them.
+-- Words and the tokens of fields, and how expressions are spelled in words.
+pub mod FieldTokens
 pub mod Binding
 pub mod Spelling
 pub mod WordLaws
@@ -17,11 +18,11 @@ pub mod Following
 pub mod ItemsOnly
 pub mod OnlyAtoms
 pub mod OnlyLevels
--- For `expressions_are_read` and `spelled_once`: expressions of spelled tokens are levelled.
+-- For `expressions_are_read`: expressions of spelled tokens are levelled.
 pub mod Regrouping
 pub mod LevelledLaws
 pub mod ExpressionLaws
--- For `lines_are_read` and `lines_are_spelled_once`.
+-- For the laws of lines, and for `spelled_once`, since each tree is a line.
 pub mod ShapedLines
 pub mod LinePieces
 pub mod LineForms

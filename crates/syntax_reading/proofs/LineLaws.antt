@@ -1,9 +1,11 @@
 -- Reading gives the line that tokens are, and only that one.
 use Rattle.std.proofs.Common.{◌≡◌, ℕ, suc, ◌≤◌, max, inl, inr, List, [], ◌∷◌, Option, Some, None, refl, sym, ap, ◌∙◌, subst, arith}
 use Rattle.lexical_form.specs.Tokens.{Token}
-use Rattle.py_tree.specs.Trees.{Head}
+use Rattle.py_tree.specs.Trees.{Tree, Head, value}
+use Rattle.syntax_form.specs.Levelled.{Levelled}
 use Rattle.syntax_form.specs.LinePrinting.{head_tokens}
 use Rattle.syntax_form.specs.Depth.{depth_limit}
+use Rattle.syntax_form.specs.Printing.{tokens}
 use Rattle.syntax_form.specs.SpelledTokens.{AreTokens}
 use Rattle.syntax_form.specs.Lines.{HeadLevelled, head_depth, place, SpellsLine, IsLine}
 use Rattle.syntax_form.proofs.PrintedLines.{line_tokens}
@@ -136,9 +138,31 @@ one_line ts h k a b =
     let down = b.latest h a.spells in
     one_of_form h k a.spells.levelled b.spells.levelled (omega arith) (sym a.spells.spelled ∙ b.spells.spelled)
 
+-- of what spells a line some line is read, which it is
+some_read : (ts : List Token) (h : Head) → SpellsLine ts h → (k : Head) × ((read_line ts ≡ Some k) × IsLine ts k)
+some_read ts h s =
+    let spelled : AreTokens ts = subst AreTokens (sym s.spelled) (line_tokens h s.levelled) in
+    let some = some_first forms (form_of h) (words ts) h (among (form_of h)) (one_only ts h (spells_shaped ts h s)) in
+    (some.0, (some.1, line_found ts some.0 spelled some.1))
+
 pub line_only : (ts : List Token) (h : Head) → IsLine ts h → read_line ts ≡ Some h
 line_only ts h s =
-    let spelled : AreTokens ts = subst AreTokens (sym s.spells.spelled) (line_tokens h s.spells.levelled) in
-    let one = one_only ts h (spells_shaped ts h s.spells) in
-    let some = some_first forms (form_of h) (words ts) h (among (form_of h)) one in
-    some.1 ∙ ap Some (one_line ts some.0 h (line_found ts some.0 spelled some.1) s)
+    let some = some_read ts h s.spells in
+    some.1.0 ∙ ap Some (one_line ts some.0 h some.1.1 s)
+
+-- what spells a line is some line
+pub some_line : (ts : List Token) (h : Head) → SpellsLine ts h → (k : Head) × IsLine ts k
+some_line ts h s = let some = some_read ts h s in (some.0, some.1.1)
+
+-- where no line is read, none is spelled
+pub no_line : (ts : List Token) → read_line ts ≡ None → (h : Head) → SpellsLine ts h → ⊥
+no_line ts e h s =
+    let some = some_read ts h s in
+    let none : None ≡ Some some.0 = sym e ∙ some.1.0 in
+    cc
+
+-- trees with the same tokens are the same: each is a line
+pub spelled_once : (t u : Tree) → Levelled t → Levelled u → tokens t ≡ tokens u → t ≡ u
+spelled_once t u l m e =
+    let same_line : value t ≡ value u = one_of_form (value t) (value u) (omega arith, l) (omega arith, m) refl e in
+    cc (same_line)

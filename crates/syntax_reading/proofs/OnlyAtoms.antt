@@ -4,18 +4,18 @@ use Rattle.std.specs.Prelude.{option_map}
 use Rattle.py_tree.specs.Expressions as form
 use Rattle.syntax_reading.specs.Words as is
 use Rattle.py_tree.specs.Names.{Name}
-use Rattle.py_tree.specs.Expressions.{Pieces, no_piece, characters, field, Operator, Prefix, Comparison, Tree, conditional, binary, prefixed, chain, is_none, power, call, index, slice, attribute, paren, tuple, list, dict, list_of, dict_of, bare, Trees, none, more, Links, done, link, Arguments, no_argument, positional, keyword, Pairs, no_pair, pair, Bound, left_out, at, trees_of}
+use Rattle.py_tree.specs.Expressions.{Pieces, no_piece, characters, field, Operator, Prefix, Tree, binary, prefixed, paren, tuple, list, dict, list_of, dict_of, Trees, none, more, Pairs, no_pair, pair, trees_of}
 use Rattle.syntax_form.specs.Printing.{tokens, token_pieces}
 use Rattle.syntax_form.specs.Depth.{piece_depth, list_depth}
 use Rattle.syntax_form.specs.Levels.{operator_level, prefix_level}
 use Rattle.syntax_form.specs.Shapes.{CommaBehind, IsTuple, CommaBehindPairs}
-use Rattle.syntax_form.proofs.TokenLaws.{list_of_tokens}
-use Rattle.syntax_reading.specs.Words.{literal_of, is_none_spelled, is_free, may_be_literal, same, Fixed, Word, name, literal, f_text, fixed, other, word_of, words, none_literal, is_none_literal}
+use Rattle.syntax_reading.specs.Words.{same, Fixed, Word, name, literal, f_text, fixed, words}
 use Rattle.syntax_reading.specs.Readers.{Read, Reader, ◌>>=◌, choose, on, guarded, Closing, by, is_some}
 use Rattle.syntax_reading.specs.Items.{items, items_on, each}
 use Rattle.syntax_reading.specs.Tables.{Level, E1, E2, least}
 use Rattle.syntax_reading.specs.Parts.{first_name, first_if, first_keyword, some_names, targets, Argument, plain, named, pairs_of, tests_of}
 use Rattle.syntax_reading.specs.Reading.{with_field, alone, argument, key_item, clause, round, square, brace, parts, with_parts, atom}
+use Rattle.syntax_reading.proofs.FieldTokens.{list_of_tokens}
 use Rattle.syntax_reading.proofs.Binding.{binding, binds, opens}
 use Rattle.syntax_reading.proofs.Shaped.{PiecesShaped, IsFree, AreFreeTargets, AllShaped}
 use Rattle.syntax_reading.proofs.Spelling.{closes, spell_more, spell_all, spell_name, spell_names, spell, spell_list, spell_pairs, spell_tests}

@@ -10,14 +10,14 @@ use Rattle.lexical_form.proofs.Basics.{head_is, tail_is}
 use Rattle.lexical_form.proofs.WorkedRows.{computed, answer_is}
 use Rattle.syntax_form.specs.Depth.{depth_limit}
 use Rattle.syntax_form.specs.Expressions.{IsExpression}
-use Rattle.syntax_form.specs.Lines.{IsLine}
+use Rattle.syntax_form.specs.Lines.{SpellsLine, IsLine}
 use Rattle.syntax_form.specs.SpelledTokens.{AreTokens}
 use Rattle.syntax_form.proofs.LineTokens.{of_tokens}
 use Rattle.syntax_reading.specs.Reading.{read_expression}
 use Rattle.syntax_reading.specs.LineReading.{read_line}
 use Rattle.syntax_reading.specs.Worked.{IsOneLine, Says, AreRows, AreExpressions, AreLines}
 use Rattle.syntax_reading.proofs.ExpressionLaws.{expression_found, expression_only}
-use Rattle.syntax_reading.proofs.LineLaws.{line_found, line_only}
+use Rattle.syntax_reading.proofs.LineLaws.{line_found, no_line}
 
 abbrev first_tokens : List Line → List Token
 first_tokens [] = []
@@ -55,28 +55,33 @@ module _ {A : Type 0} (reader : List Token → Option A) where
   abbrev pub Computed : List (Row A) → Type 0
   Computed rows = all_seen rows ≡ all_wanted rows
 
-module _ {A : Type 0} (Is : List Token → A → Type 0) (reader : List Token → Option A)
-    (found : (ts : List Token) (x : A) → AreTokens ts → reader ts ≡ Some x → Is ts x) (only : (ts : List Token) (x : A) → Is ts x → reader ts ≡ Some x) where
-  says : (ts : List Token) (o : Option A) → AreTokens ts → reader ts ≡ o → Says Is ts o
+module _ {A : Type 0} (Is Spells : List Token → A → Type 0) (reader : List Token → Option A)
+    (found : (ts : List Token) (x : A) → AreTokens ts → reader ts ≡ Some x → Is ts x)
+    (refused : (ts : List Token) → reader ts ≡ None → (x : A) → Spells ts x → ⊥) where
+  says : (ts : List Token) (o : Option A) → AreTokens ts → reader ts ≡ o → Says Is Spells ts o
   says ts (Some x) spelled e = found ts x spelled e
-  says ts None spelled e = λ x h. let none : None ≡ Some x = sym e ∙ only ts x h in cc
+  says ts None spelled e = refused ts e
 
-  row_says : (row : Row A) → seen reader row.0 ≡ wanted reader row → (ts : List Token) × IsOneLine row.0 ts × Says Is ts row.1
+  row_says : (row : Row A) → seen reader row.0 ≡ wanted reader row → (ts : List Token) × IsOneLine row.0 ts × Says Is Spells ts row.1
   row_says row e =
       let ts = answer_tokens (computed row.0) in
       let line : IsOneLine row.0 ts = answer_is row.0 (one_line ts) (ap (λ (s : Seen A). s.0) e) (ap (λ (s : Seen A). s.1) e) in
       (ts, line, says ts row.1 (of_tokens row.0 (record { line = 1; indent = 0; tokens = ts } ∷ []) line.1).0 (ap (λ (s : Seen A). s.2) e))
 
-  are_rows : (rows : List (Row A)) → Computed reader rows → AreRows Is rows
+  are_rows : (rows : List (Row A)) → Computed reader rows → AreRows Is Spells rows
   are_rows [] e = tt
   are_rows (row ∷ rows) e = (
     row_says row (head_is {A = Seen A} (seen reader row.0) (wanted reader row) (all_seen reader rows) (all_wanted reader rows) e),
     are_rows rows (tail_is {A = Seen A} (seen reader row.0) (wanted reader row) (all_seen reader rows) (all_wanted reader rows) e),
   )
 
+-- where no expression is read, the tokens are none
+no_expression : (ts : List Token) → read_expression depth_limit ts ≡ None → (t : Tree) → IsExpression depth_limit ts t → ⊥
+no_expression ts e t h = let none : None ≡ Some t = sym e ∙ expression_only depth_limit ts t h in cc
+
 pub are_expressions : (rows : List (Row Tree)) → Computed (read_expression depth_limit) rows → AreExpressions rows
 are_expressions rows e =
-    are_rows (IsExpression depth_limit) (read_expression depth_limit) (expression_found depth_limit) (expression_only depth_limit) rows e
+    are_rows (IsExpression depth_limit) (IsExpression depth_limit) (read_expression depth_limit) (expression_found depth_limit) no_expression rows e
 
 pub are_lines : (rows : List (Row Head)) → Computed read_line rows → AreLines rows
-are_lines rows e = are_rows IsLine read_line line_found line_only rows e
+are_lines rows e = are_rows IsLine SpellsLine read_line line_found no_line rows e

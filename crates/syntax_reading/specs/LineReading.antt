@@ -1,14 +1,15 @@
 -- Reading of lines: the latest form that fits is taken.
-use Rattle.std.specs.Prelude.{ℕ, List, [], ◌∷◌, Option, Some, None}
+use Rattle.std.specs.Prelude.{ℕ, pred, List, [], ◌∷◌, Option, Some, None}
 use Rattle.py_tree.specs.Trees.{Head}
 use Rattle.lexical_form.specs.Tokens.{Token}
+use Rattle.syntax_form.specs.Depth.{depth_limit}
 use Rattle.syntax_reading.specs.Words.{Word, words}
 use Rattle.syntax_reading.specs.LinePieces.{Slot, pieces}
 use Rattle.syntax_reading.specs.LineForms.{Form, Value, Assign, AugmentName, PutItem, AugmentItem, Append, Extend, IfLine, ElifLine, ElseLine, WhileLine, ForLine, DefLine, Return, ReturnValue, Pass, Break, Continue, ImportMarimo, ImportMo, WithCache, WithNamedCache, CacheDecorator, CellDecorator, CellDecoratorWith, App, template, make}
 
 -- the greatest depth of the parts of a tree
 abbrev pub part_limit : ℕ
-part_limit = 63
+part_limit = pred depth_limit
 
 -- from the latest to the first
 abbrev pub forms : List Form

@@ -8,9 +8,8 @@ use Rattle.py_tree.specs.Expressions.{Trees, none, trees_of, no_pair, Bound, lef
 use Rattle.lexical_form.specs.Tokens as kind
 use Rattle.lexical_form.specs.Tokens.{Token}
 use Rattle.syntax_form.specs.Depth.{depth}
-use Rattle.syntax_form.specs.SpelledTokens.{token_list}
 use Rattle.syntax_reading.specs.Words as is
-use Rattle.syntax_reading.specs.Words.{Word, name, literal, f_text, fixed, other, words, is_free, may_be_literal}
+use Rattle.syntax_reading.specs.Words.{Word, name, literal, f_text, fixed, other, words, token_list, is_free, may_be_literal}
 use Rattle.syntax_reading.specs.Readers.{Read, Reader, ◌>>=◌, choose, on_table, on, guarded, by}
 use Rattle.syntax_reading.specs.Items.{items, items_on, each}
 use Rattle.syntax_reading.specs.Tables.{Level, E1, E2, E3, E4, E6, E7, E8, operator_at, deeper, prefix_at, Tail, Call, Index, Attribute, tail_of, Bracket, Round, Square, Brace, bracket_of}

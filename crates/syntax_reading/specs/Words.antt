@@ -7,9 +7,9 @@ use Rattle.py_tree.specs.declared.token.Token as literals
 use Rattle.py_tree.specs.declared.token.TokenKind.{TokenKind}
 use Rattle.py_tree.specs.declared.token.TokenKind.TheVariants as literal_kind
 use Rattle.lexical_form.specs.Tokens as kind
-use Rattle.lexical_form.specs.Tokens.{Token, token, Pieces}
+use Rattle.lexical_form.specs.Tokens.{Token, token, Tokens, no_token, then_token, Pieces}
 use Rattle.syntax_form.specs.Literals.{constants}
-use Rattle.syntax_form.specs.Printing.{mark, literal_token}
+use Rattle.syntax_form.specs.Printing.{mark}
 use Rattle.syntax_form.specs.Printing as printing
 
 -- the keywords and marks that have a place in a form
@@ -211,6 +211,11 @@ word_of (token kind.mark cs) = fixed_or (other (token kind.mark cs)) (find mark_
 
 abbrev pub words : List Token → List Word
 words ts = map word_of ts
+
+-- the tokens of a field
+abbrev pub token_list : Tokens → List Token
+token_list no_token = []
+token_list (then_token t ts) = t ∷ token_list ts
 
 -- a constant, a number or a text, however it is spelled
 abbrev pub may_be_literal : TokenKind → List ℕ → Bool

@@ -10,27 +10,27 @@ use Rattle.lexical_form.specs.Answer.{IsAnswer, accepted}
 use Rattle.lexical_form.specs.Tokens.{Token}
 use Rattle.syntax_form.specs.Depth.{depth_limit}
 use Rattle.syntax_form.specs.Expressions.{IsExpression}
-use Rattle.syntax_form.specs.Lines.{IsLine}
+use Rattle.syntax_form.specs.Lines.{SpellsLine, IsLine}
 
 -- the text is one logical line of these tokens
 abbrev pub IsOneLine : List ℕ → List Token → Type 0
 IsOneLine text ts = IsAnswer text (accepted (record { line = 1; indent = 0; tokens = ts } ∷ []))
 
--- the tokens are this one, or none
-abbrev pub Says : {A : Type 0} → (List Token → A → Type 0) → List Token → Option A → Type 0
-Says Is ts (Some x) = Is ts x
-Says {A} Is ts None = (x : A) → Is ts x → ⊥
+-- the tokens are this one, or spell none
+abbrev pub Says : {A : Type 0} → (Is Spells : List Token → A → Type 0) → List Token → Option A → Type 0
+Says Is Spells ts (Some x) = Is ts x
+Says {A} Is Spells ts None = (x : A) → Spells ts x → ⊥
 
 -- each text of a table is one logical line, whose tokens are what stands beside it
-abbrev pub AreRows : {A : Type 0} → (List Token → A → Type 0) → List (List ℕ × Option A) → Type 0
-AreRows Is [] = ⊤
-AreRows Is (row ∷ rows) = ((ts : List Token) × IsOneLine row.0 ts × Says Is ts row.1) × AreRows Is rows
+abbrev pub AreRows : {A : Type 0} → (Is Spells : List Token → A → Type 0) → List (List ℕ × Option A) → Type 0
+AreRows Is Spells [] = ⊤
+AreRows Is Spells (row ∷ rows) = ((ts : List Token) × IsOneLine row.0 ts × Says Is Spells ts row.1) × AreRows Is Spells rows
 
 abbrev pub AreExpressions : List (List ℕ × Option Tree) → Type 0
-AreExpressions = AreRows (IsExpression depth_limit)
+AreExpressions = AreRows (IsExpression depth_limit) (IsExpression depth_limit)
 
 abbrev pub AreLines : List (List ℕ × Option Head) → Type 0
-AreLines = AreRows IsLine
+AreLines = AreRows IsLine SpellsLine
 
 -- ---- rows
 abbrev pub row : {A : Type 0} → String → A → List ℕ × Option A

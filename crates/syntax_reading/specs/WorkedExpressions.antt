@@ -1,7 +1,7 @@
 -- Worked examples of expressions. Where the languages agree, the trees are those of Python's own `ast` (3.11), with the brackets and last commas
 -- that it doesn't keep.
 use Rattle.std.specs.Prelude.{ℕ, zero, suc, true, false, List, [], ◌∷◌, ◌++◌, codes, Option, Some, None}
-use Rattle.py_tree.specs.FieldFormats.{as_is, repr, aligned, right}
+use Rattle.py_tree.specs.FieldFormats.{as_is, repr, str, aligned, right}
 use Rattle.py_tree.specs.Expressions as form
 use Rattle.py_tree.specs.Expressions.{Or, And, Add, Subtract, Multiply, Floor, Remainder, Not, Minus, Plus, Equal, Unequal, Less, AtMost, Greater, AtLeast, In, NotIn}
 use Rattle.py_tree.specs.Expressions.{Tree, conditional, binary, prefixed, chain, is_none, power, call, index, slice, attribute, paren, tuple, list, dict, list_of, dict_of}
@@ -23,7 +23,9 @@ operator_rows =
     ∷ row "not not a" (prefixed Not (prefixed Not (named "a")))
     ∷ row "a or b and not c" (binary Or (named "a") (binary And (named "b") (prefixed Not (named "c"))))
     ∷ row "a or b or c" (binary Or (binary Or (named "a") (named "b")) (named "c"))
-    ∷ all_refused ("a + not b" ∷ "a b" ∷ "not" ∷ [])
+    -- Python takes this
+    ∷ all_refused ("a @ b" ∷ [])
+    ++ all_refused ("a + not b" ∷ "a b" ∷ "not" ∷ "*a" ∷ "a := b" ∷ [])
 
 -- ---- comparisons
 abbrev pub comparison_rows : List (List ℕ × Option Tree)
@@ -36,7 +38,7 @@ comparison_rows =
     ∷ row "a is None" (is_none false (named "a"))
     ∷ row "a is not None" (is_none true (named "a"))
     -- Python takes these
-    ∷ all_refused ("a is b" ∷ "a is not b" ∷ "a is None is None" ∷ "a < b is None" ∷ [])
+    ∷ all_refused ("a is b" ∷ "a is not b" ∷ "a is None is None" ∷ "a < b is None" ∷ "a < b is c" ∷ [])
     ++ all_refused ("a not b" ∷ [])
 
 -- ---- conditionals
@@ -46,7 +48,9 @@ conditional_rows =
     ∷ row "a if b else c if d else e" (conditional (named "a") (named "b") (conditional (named "c") (named "d") (named "e")))
     ∷ row "a if b or c else not d" (conditional (named "a") (binary Or (named "b") (named "c")) (prefixed Not (named "d")))
     ∷ row "(a if b else c) if d else e" (conditional (paren (conditional (named "a") (named "b") (named "c"))) (named "d") (named "e"))
-    ∷ all_refused ("a if b" ∷ "a if b if c else d else e" ∷ [])
+    -- Python takes these
+    ∷ all_refused ("lambda: 1" ∷ "lambda a: b" ∷ [])
+    ++ all_refused ("a if b" ∷ "a if b if c else d else e" ∷ [])
 
 -- ---- calls, indexes, slices, attributes
 abbrev pub postfix_rows : List (List ℕ × Option Tree)
@@ -65,8 +69,10 @@ postfix_rows =
     (call (named "f") (keyword (codes "a") (number "1") (keyword (codes "b") (conditional (named "c") (named "d") (named "e")) no_argument)) false)
     ∷ row "(a).b" (attribute (paren (named "a")) (codes "b"))
     ∷ row "-a.b" (prefixed Minus (attribute (named "a") (codes "b")))
+    -- Python takes this one with a blank before the point alone
+    ∷ row "5.find" (attribute (number "5") (codes "find"))
     -- Python takes these
-    ∷ all_refused ("f(*a)" ∷ "x[::]" ∷ "x[1:2:3]" ∷ "x[1, 2]" ∷ [])
+    ∷ all_refused ("f(*a)" ∷ "f(**k)" ∷ "f(a for a in b)" ∷ "f(a := 1)" ∷ "x[::]" ∷ "x[1:2:3]" ∷ "x[1, 2]" ∷ "await a" ∷ [])
     ++ all_refused ("f(b=1, a)" ∷ "f(,)" ∷ "f(a b)" ∷ "f(a, b=1=2)" ∷ "f(1=a)" ∷ "x[]" ∷ "a.1" ∷ "a.if" ∷ [])
 
 -- ---- names and literals
@@ -96,7 +102,7 @@ bracket_rows =
     ∷ row "{1: 2,}" (dict (pair (number "1") (number "2") no_pair) true)
     ∷ row "{a: b, c: (d,)}" (dict (pair (named "a") (named "b") (pair (named "c") (tuple (more (named "d") none) true) no_pair)) false)
     -- Python takes these
-    ∷ all_refused ("{a}" ∷ "a, b" ∷ "a," ∷ [])
+    ∷ all_refused ("{a}" ∷ "{1, 2}" ∷ "{**a}" ∷ "[*a]" ∷ "(a := b)" ∷ "(yield)" ∷ "a, b" ∷ "a," ∷ [])
     ++ all_refused ("(,)" ∷ "(a b)" ∷ "[,]" ∷ "{,}" ∷ "{a: b, c}" ∷ [])
 
 -- ---- comprehensions
@@ -121,16 +127,19 @@ f_text_rows =
     (f_text "f\"{a + 1!r:>5}{b}c\""
     (field (binary Add (named "a") (number "1")) repr (Some (aligned (Some right) (Some 5) None)) (field (named "b") as_is None (characters (codes "c") no_piece))))
     ∷ row "f'{(a, b)}'" (f_text "f'{(a, b)}'" (field (tuple (more (named "a") (more (named "b") none)) false) as_is None no_piece))
+    ∷ row "f'{a} {b!s}'" (f_text "f'{a} {b!s}'" (field (named "a") as_is None (characters (codes " ") (field (named "b") str None no_piece))))
     ∷ row "f'' in a" (chain (f_text "f''" no_piece) In (named "a") done)
-    ∷ all_refused ("f'{a, b}'" ∷ "f'{a=}'" ∷ "f'{a b}'" ∷ "f'{a if b}'" ∷ "f'{a}' f'{b}'" ∷ [])
+    -- Python takes these
+    ∷ all_refused ("f'{a, b}'" ∷ "f'{a=}'" ∷ "f'{a}' f'{b}'" ∷ [])
+    ++ all_refused ("f'{a b}'" ∷ "f'{a if b}'" ∷ [])
 
 -- ---- depths
--- brackets round `1`
+-- brackets round `a`
 abbrev pub bracketed : ℕ → List ℕ
-bracketed n = repeated n 40 ++ 49 ∷ repeated n 41
+bracketed n = repeated n 40 ++ 97 ∷ repeated n 41
 
 abbrev pub in_brackets : ℕ → Tree
-in_brackets zero = number "1"
+in_brackets zero = named "a"
 in_brackets (suc n) = paren (in_brackets n)
 
 -- `1 + 1 + ..`

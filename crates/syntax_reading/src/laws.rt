@@ -1,20 +1,19 @@
 // Laws of reading, proved from the definitions.
-ghost use Rattle.std.specs.Prelude.{◌≡◌, ◌≤◌, ℕ, List, Some};
+ghost use Rattle.std.specs.Prelude.{◌≡◌, ℕ, List, Some};
 ghost use Rattle.lexical_form.specs.Tokens.{Token};
 ghost use Rattle.py_tree.specs.Trees.{Tree, Head};
 ghost use Rattle.syntax_form.specs.Expressions.{IsExpression};
 ghost use Rattle.syntax_form.specs.Levelled.{Levelled};
-ghost use Rattle.syntax_form.specs.Levels.{level};
 ghost use Rattle.syntax_form.specs.LinePrinting.{head_tokens};
-ghost use Rattle.syntax_form.specs.Lines.{HeadLevelled, IsLine, place};
+ghost use Rattle.syntax_form.specs.Lines.{HeadLevelled, SpellsLine, IsLine, place};
 ghost use Rattle.syntax_form.specs.Printing.{tokens};
 ghost use Rattle.syntax_form.specs.SpelledTokens.{AreTokens};
 ghost use Rattle.syntax_reading.specs.LineReading.{read_line};
 ghost use Rattle.syntax_reading.specs.Reading.{read_expression};
 
-/// Two levelled expressions with the same tokens are the same expression.
+/// Two levelled trees with the same tokens are the same tree, also where they are tuples without brackets.
 pub fn spelled_once()
-    ensures { (t u : Tree) → 1 ≤ level t → Levelled t → 1 ≤ level u → Levelled u → tokens t ≡ tokens u → t ≡ u }
+    ensures { (t u : Tree) → Levelled t → Levelled u → tokens t ≡ tokens u → t ≡ u }
 {}
 
 /// Of tokens that are spelled as tokens what is read is an expression that they are; and where they are one, it is read.
@@ -27,6 +26,11 @@ pub fn expressions_are_read()
 pub fn lines_are_spelled_once()
     ensures form { (h k : Head) → HeadLevelled h → HeadLevelled k → place h ≡ place k → head_tokens h ≡ head_tokens k → h ≡ k }
     ensures line { (ts : List Token) (h k : Head) → IsLine ts h → IsLine ts k → h ≡ k }
+{}
+
+/// What spells a line is some line, so that to be refused is to spell none.
+pub fn spelled_lines_are_lines()
+    ensures { (ts : List Token) (h : Head) → SpellsLine ts h → (k : Head) × IsLine ts k }
 {}
 
 /// Of tokens that are spelled as tokens what is read is the line that they are; and where they are one, it is read.

@@ -1,4 +1,4 @@
-use Rattle.syntax_reading.proofs.ExpressionLaws as laws
+use Rattle.syntax_reading.proofs.LineLaws as laws
 use Rattle.syntax_reading.proofs.laws.spelled_once.Goals as goal
 
 pub returns : goal.returns
