@@ -8,3 +8,5 @@ pub mod Sums
 pub mod Totals
 pub mod Tellings
 pub mod Reported
+-- For `serve_all`: threads may share a notebook.
+pub mod Sharing
