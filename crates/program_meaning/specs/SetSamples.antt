@@ -1,7 +1,7 @@
 -- Worked messages that set several values, or none.
 use Rattle.std.specs.Prelude.{ℕ, List, [], ◌∷◌, ◌++◌, codes, pos, Some}
 use Rattle.py_tree.specs.Names.{Name}
-use Rattle.py_tree.specs.Trees.{sum, import_mo, Cell}
+use Rattle.py_tree.specs.Trees.{binary, Add, import_mo, Cell}
 use Rattle.py_value.specs.declared.types.Value.{Value}
 use Rattle.py_value.specs.declared.types.Value.TheVariants as V
 use Rattle.messages.specs.declared.message.SetItem.{SetItem}

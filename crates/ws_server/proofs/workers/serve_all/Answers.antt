@@ -1,0 +1,6 @@
+use denote.Param.Send.{sendable}
+use Rattle.ws_server.proofs.Sharing.{notebook_sync}
+use Rattle.ws_server.proofs.workers.serve_all.Goals as goal
+
+pub for_each_mut-requires-sync-F : goal.for_each_mut-requires-sync-F
+for_each_mut-requires-sync-F g c κs within = search (sendable, notebook_sync) depth 20
