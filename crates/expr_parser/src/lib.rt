@@ -1,0 +1,5 @@
+//! Expressions from tokens.
+#![tactic(auto)]
+
+mod lists;
+mod part;
