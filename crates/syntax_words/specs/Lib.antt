@@ -1,0 +1,4 @@
+pub mod FixedView
+pub mod SenseView
+pub mod TableView
+pub mod WordView

@@ -1,0 +1,13 @@
+// Words of the grammar.
+ghost use Rattle.std.specs.Prelude.{IsTrue};
+ghost use Rattle.syntax_words.specs.SenseView.{view_sense, is_sound};
+
+use crate::sense::Sense;
+
+/// A token as the grammar sees it: what it is stands beside it, so that no spelling is compared twice.
+#[derive(Clone, Copy, Debug)]
+pub struct Word<'a> {
+    pub sense: Sense<'a>,
+    /// A name is no keyword, and a literal is a constant, a number or a text: a reader needn't look again.
+    pub ghost sound: { IsTrue (is_sound (view_sense sense)) },
+}
