@@ -1,11 +1,13 @@
 -- Depths of lists with one item more.
 use Rattle.std.proofs.Common.{◌≡◌, ℕ, ◌+◌, ◌<◌, ◌≤◌, max, List, [], ◌∷◌, ◌++◌, map, Option, None, Some, refl, sym, ap, ◌∙◌, arith}
 use Rattle.py_tree.specs.ExprView.{view, view_comparison}
-use Rattle.py_tree.specs.Expressions.{Comparison, Tree, trees_of}
-use Rattle.syntax_form.specs.Depth.{depth, list_depth, argument_depth, pair_depth, link_depth}
+use Rattle.py_tree.specs.Expressions.{Comparison, Tree, trees_of, no_piece}
+use Rattle.py_tree.specs.FieldFormats.{Convert, Spec}
+use Rattle.syntax_form.specs.Depth.{depth, list_depth, argument_depth, pair_depth, link_depth, piece_depth}
 use Rattle.py_tree.specs.Names.{Name}
 use Rattle.syntax_reading.specs.Parts.{Argument, plain, named, arguments_of, pairs_of, links_of}
 use Rattle.expr_parser.specs.ListView.{argument_of}
+use Rattle.expr_parser.specs.TextView.{Text, plain as characters_of, filled, put_all}
 
 pub tree_behind : (all ts : List Tree) (t : Tree) (n k : ℕ) → all ≡ ts ++ t ∷ [] → n ≡ list_depth (trees_of ts) → k ≡ depth t → max n k ≡ list_depth (trees_of all)
 tree_behind all ts t n k is e f = omega (arith, e, f, ap (λ us. list_depth (trees_of us)) is, push ts)
@@ -55,3 +57,21 @@ seen_behind {A = A} f all xs x is = ap (map f) is ∙ push xs
     push : (ys : List A) → map f (ys ++ x ∷ []) ≡ map f ys ++ f x ∷ []
     push [] = refl
     push (y ∷ ys) = ap (λ zs. f y ∷ zs) (push ys)
+
+pub characters_behind : (all ts : List Text) (cs : List ℕ) (n : ℕ) → all ≡ ts ++ characters_of cs ∷ [] → n ≡ piece_depth (put_all ts no_piece) →
+    n ≡ piece_depth (put_all all no_piece)
+characters_behind all ts cs n is e = omega (arith, e, ap (λ us. piece_depth (put_all us no_piece)) is, push ts)
+  where
+    push : (us : List Text) → piece_depth (put_all (us ++ characters_of cs ∷ []) no_piece) ≡ piece_depth (put_all us no_piece)
+    push [] = refl
+    push (characters_of ds ∷ us) = push us
+    push (filled t c s ∷ us) = omega (arith, push us)
+
+pub field_behind : (all ts : List Text) (t : Tree) (convert : Convert) (spec : Option Spec) (n k : ℕ) → all ≡ ts ++ filled t convert spec ∷ [] →
+    n ≡ piece_depth (put_all ts no_piece) → k ≡ depth t → max n k ≡ piece_depth (put_all all no_piece)
+field_behind all ts t convert spec n k is e f = omega (arith, e, f, ap (λ us. piece_depth (put_all us no_piece)) is, push ts)
+  where
+    push : (us : List Text) → piece_depth (put_all (us ++ filled t convert spec ∷ []) no_piece) ≡ max (piece_depth (put_all us no_piece)) (depth t)
+    push [] = omega arith
+    push (characters_of ds ∷ us) = push us
+    push (filled u c s ∷ us) = omega (arith, push us)

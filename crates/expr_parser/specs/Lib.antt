@@ -1,1 +1,6 @@
+pub mod BoundView
 pub mod ListView
+pub mod Nests
+pub mod Reads
+pub mod TextView
+pub mod Unfolded

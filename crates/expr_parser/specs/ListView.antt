@@ -1,15 +1,15 @@
 -- What is listed in expressions, seen as the reader's lists of it.
-use Rattle.std.specs.Prelude.{List, map, Option, Some, None}
+use Rattle.std.specs.Prelude.{List, [], ◌∷◌, map, Option, Some, None}
 use Rattle.py_tree.specs.Names.{Name}
 use Rattle.py_tree.specs.ExprView.{view, view_comparison}
-use Rattle.py_tree.specs.Expressions.{Comparison, Tree}
+use Rattle.py_tree.specs.Expressions.{Comparison, Tree, chain}
 use Rattle.py_tree.specs.declared.expr.Argument as code
 use Rattle.py_tree.specs.declared.expr.Argument.TheOpen.{Argument-F, Link-F, Pair-F}
 use Rattle.py_tree.specs.declared.expr.Expr.{Expr}
 use Rattle.py_tree.specs.declared.expr.Link.{Link, out-Link}
 use Rattle.py_tree.specs.declared.expr.Pair.{Pair, out-Pair}
 use Rattle.py_tree.specs.declared.expr.TextPiece.{TextPiece}
-use Rattle.syntax_reading.specs.Parts.{Argument, plain, named}
+use Rattle.syntax_reading.specs.Parts.{Argument, plain, named, links_of}
 
 abbrev pub trees : List Expr → List Tree
 trees es = map view es
@@ -46,3 +46,8 @@ seen_test e = (tt, view e)
 
 abbrev pub seen_tests : List Expr → List (Unit {0} × Tree)
 seen_tests es = map seen_test es
+
+-- an operand with links behind it, if there are any
+abbrev pub chain_of : Tree → List (Comparison × Tree) → Tree
+chain_of t [] = t
+chain_of t (l ∷ ls) = chain t l.0 l.1 (links_of ls)

@@ -1,0 +1,35 @@
+// Expressions of one depth, over a reader of what lies deeper; and the reader itself.
+ghost use Rattle.std.specs.Prelude.{◌≡◌, ◌+◌, ◌<◌, ◌≤◌, ◌^◌};
+ghost use Rattle.py_tree.specs.ExprView.{view};
+ghost use Rattle.syntax_reading.specs.Reading as reading;
+ghost use Rattle.syntax_words.specs.TableView.{view_level};
+ghost use Rattle.syntax_words.specs.WordView.{words_of};
+ghost use Rattle.expr_parser.specs.Nests.{Nests};
+ghost use Rattle.expr_parser.specs.Reads.{Reads, Within};
+
+use crate::part::Part;
+use std::alloc::{AllocError, Global};
+use syntax_words::{Level, Word};
+
+/// What was read, and the words behind it; None where the words begin nothing of the kind.
+pub type Reading<'a, T> = Result<Option<(T, &'a [Word<'a>])>, AllocError>;
+
+/// The forms of one depth, over a reader of what lies deeper: so each is proved by itself.
+#[derive(Clone, Copy)]
+pub struct Grammar<F> {
+    pub alloc: Global,
+    /// How deep what lies deeper may be.
+    pub below: u32,
+    pub deeper: F,
+}
+
+impl<F: for<'a> Fn(Global, &'a [Word<'a>], u32, Level) -> Result<Option<(Part, &'a [Word<'a>])>, AllocError>> Grammar<F> {
+    /// An expression that lies deeper.
+    pub fn inner<'a>(&self, words: &'a [Word<'a>], level: Level) -> Reading<'a, Part>
+        requires { Nests self.now.below (F.pre self.now.deeper) (F.post self.now.deeper) }
+        ensures value { Reads (λ p. view p.expr) result (reading.read self.now.below (view_level level) (words_of words.now)) }
+        ensures shallow { Within (λ p. p.depth) self.now.below result }
+    {
+        (self.deeper)(self.alloc, words, self.below, level)
+    }
+}
