@@ -1,3 +1,5 @@
+pub mod AtomView
+pub mod Beginnings
 pub mod FixedView
 pub mod SenseView
 pub mod TableView

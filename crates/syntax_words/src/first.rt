@@ -4,6 +4,7 @@ ghost use Rattle.py_tree.specs.ExprView.{view_comparison};
 ghost use Rattle.syntax_reading.specs.Parts as reading;
 ghost use Rattle.syntax_reading.specs.Readers.{first_in, is_word};
 ghost use Rattle.syntax_reading.specs.Tables as table;
+ghost use Rattle.syntax_words.specs.Beginnings.{first_none};
 ghost use Rattle.syntax_words.specs.FixedView.{view_fixed};
 ghost use Rattle.syntax_words.specs.TableView.{view_level, view_operator, view_prefix, view_tail, view_bracket};
 ghost use Rattle.syntax_words.specs.WordView.{words_of, found, behind};
@@ -100,6 +101,7 @@ pub fn first_name<'a>(words: &'a [Word<'a>]) -> Option<(&'a Spelling, &'a [Word<
 }
 
 /// `NAME=`, the name.
+#[tactic(auto, using(crate::proofs::Beginnings::keyword_by_name))]
 pub fn first_keyword<'a>(words: &'a [Word<'a>]) -> Option<(&'a Spelling, &'a [Word<'a>])>
     ensures { found (λ x. x.now) result ≡ reading.first_keyword (words_of words.now) }
 {
@@ -117,7 +119,7 @@ pub fn first_if<'a>(words: &'a [Word<'a>]) -> Option<&'a [Word<'a>]>
 
 /// The words behind `None`.
 pub fn after_none<'a>(words: &'a [Word<'a>]) -> Option<&'a [Word<'a>]>
-    ensures { behind result ≡ reading.on_none (λ rest. Some (tt, rest)) (words_of words.now) }
+    ensures { behind result ≡ first_none (words_of words.now) }
 {
     let [word, rest @ ..] = words else {
         return None;

@@ -3,6 +3,7 @@
 //! A reader of expressions and lines stands on it: each token is looked at once, and every later test compares small enums.
 #![tactic(auto)]
 
+mod atom;
 mod first;
 mod fixed;
 mod level;
@@ -12,6 +13,7 @@ mod tables;
 mod word;
 mod word_list;
 
+pub use atom::{Atom, first_atom};
 pub use first::{
     after, after_none, first_bracket, first_comparison, first_fixed, first_if, first_keyword,
     first_name, first_operator, first_prefix, first_tail,
