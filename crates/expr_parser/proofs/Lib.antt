@@ -1,2 +1,4 @@
 pub mod Depths
+pub mod Turns
 pub mod Views
+pub mod Words

@@ -1,4 +1,5 @@
 pub mod BoundView
+pub mod Forms
 pub mod ListView
 pub mod Nests
 pub mod Reads

@@ -41,11 +41,9 @@ seen_link l = (view_comparison (out-Link l).comparison, view (out-Link l).operan
 abbrev pub seen_links : List Link → List (Comparison × Tree)
 seen_links ls = map seen_link ls
 
-abbrev pub seen_test : Expr → Unit {0} × Tree
-seen_test e = (tt, view e)
-
-abbrev pub seen_tests : List Expr → List (Unit {0} × Tree)
-seen_tests es = map seen_test es
+-- tests, each behind an `if`
+abbrev pub tests_on : List Tree → List (Unit {0} × Tree)
+tests_on ts = map (λ t. (tt, t)) ts
 
 -- an operand with links behind it, if there are any
 abbrev pub chain_of : Tree → List (Comparison × Tree) → Tree

@@ -14,6 +14,22 @@ use syntax_words::{Level, Word};
 /// What was read, and the words behind it; None where the words begin nothing of the kind.
 pub type Reading<'a, T> = Result<Option<(T, &'a [Word<'a>])>, AllocError>;
 
+/// An expression of at most this depth, at this level or a tighter one.
+pub fn read<'a>(alloc: Global, words: &'a [Word<'a>], room: u32, level: Level) -> Result<Option<(Part, &'a [Word<'a>])>, AllocError>
+    ensures value { Reads (λ p. view p.expr) result (reading.read room (view_level level) (words_of words.now)) }
+    ensures shallow { Within (λ p. p.depth) room result }
+{
+    if room == 0 {
+        return Ok(None);
+    }
+    Grammar {
+        alloc,
+        below: room - 1,
+        deeper: read,
+    }
+    .at_level(words, level)
+}
+
 /// The forms of one depth, over a reader of what lies deeper: so each is proved by itself.
 #[derive(Clone, Copy)]
 pub struct Grammar<F> {
@@ -31,5 +47,23 @@ impl<F: for<'a> Fn(Global, &'a [Word<'a>], u32, Level) -> Result<Option<(Part, &
         ensures shallow { Within (λ p. p.depth) self.now.below result }
     {
         (self.deeper)(self.alloc, words, self.below, level)
+    }
+
+    /// An expression of this depth or a lesser one, at this level or a tighter one.
+    fn at_level<'a>(&self, words: &'a [Word<'a>], level: Level) -> Reading<'a, Part>
+        requires nests { Nests self.now.below (F.pre self.now.deeper) (F.post self.now.deeper) }
+        requires small { self.now.below + 1 < 2 ^ 32 }
+        ensures value { Reads (λ p. view p.expr) result (reading.at_level (reading.read self.now.below) (self.now.below + 1) (view_level level) (words_of words.now)) }
+        ensures shallow { Within (λ p. p.depth) (self.now.below + 1) result }
+    {
+        match level {
+            Level::E1 => self.level_1(words),
+            Level::E2 => self.level_2(words),
+            Level::E3 => self.level_3(words),
+            Level::E4 => self.level_4(words),
+            Level::E6 => self.level_6(words),
+            Level::E7 => self.level_7(words),
+            Level::E8 => self.level_8(words),
+        }
     }
 }

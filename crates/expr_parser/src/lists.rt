@@ -3,7 +3,7 @@ ghost use Rattle.std.specs.Prelude.{◌≡◌, ◌∷◌, ◌++◌, [], max, IfO
 ghost use Rattle.py_tree.specs.ExprView.{view, view_comparison};
 ghost use Rattle.py_tree.specs.Expressions.{trees_of};
 ghost use Rattle.syntax_form.specs.Depth.{list_depth, argument_depth, pair_depth, link_depth};
-ghost use Rattle.syntax_reading.specs.Parts.{arguments_of, pairs_of, links_of};
+ghost use Rattle.syntax_reading.specs.Parts.{named_last, arguments_of, pairs_of, links_of};
 ghost use Rattle.expr_parser.specs.ListView.{trees, argument_of, seen_argument, seen_arguments, seen_pair, seen_pairs, seen_link, seen_links};
 
 use crate::part::Part;
@@ -88,6 +88,26 @@ impl Arguments {
         let mut items = self.items;
         items.push(argument(given.name, given.value.expr))?;
         Ok(Arguments { items, depth })
+    }
+}
+
+impl Arguments {
+    /// Whether those with names stand behind the others.
+    pub fn named_last(&self) -> bool
+        ensures { result ≡ named_last (seen_arguments self.now.items.items) }
+    {
+        let mut named = false;
+        for argument in &self.items {
+            match argument {
+                Argument::Positional(_) => {
+                    if named {
+                        return false;
+                    }
+                }
+                Argument::Keyword(_, _) => named = true,
+            }
+        }
+        true
     }
 }
 
