@@ -6,7 +6,7 @@ ghost use Rattle.syntax_words.specs.WordView.{words_of, found};
 
 use crate::sense::Sense;
 use crate::tables::{Bracket, bracket_of};
-use crate::word::Word;
+use crate::word::Words;
 use py_tokens::Pieces;
 use py_tree::{Spelling, TokenKind};
 
@@ -24,12 +24,13 @@ pub enum Atom<'a> {
 }
 
 /// What an operand begins with.
-pub fn first_atom<'a>(words: &'a [Word<'a>]) -> Option<(Atom<'a>, &'a [Word<'a>])>
-    ensures { found view_atom result ≡ beginnings.first_atom (words_of words.now) }
+pub fn first_atom<'a>(words: Words<'a>) -> Option<(Atom<'a>, Words<'a>)>
+    ensures { found view_atom result ≡ beginnings.first_atom (words_of words.entry) }
 {
-    let [word, rest @ ..] = words else {
+    let [word, rest @ ..] = words.words else {
         return None;
     };
+    let rest = Words { words: rest };
     match word.sense {
         Sense::Name(name) => Some((Atom::Name(name), rest)),
         Sense::Literal(kind, spelling) => Some((Atom::Literal(kind, spelling), rest)),

@@ -25,5 +25,5 @@ pub use spelled::{fixed_keyword, fixed_mark};
 pub use tables::{
     Bracket, Operator, Prefix, Tail, bracket_of, comparison_of, operator_at, prefix_at, tail_of,
 };
-pub use word::Word;
+pub use word::{Word, Words};
 pub use word_list::words;

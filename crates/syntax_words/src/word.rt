@@ -11,3 +11,11 @@ pub struct Word<'a> {
     /// A name is no keyword, and a literal is a constant, a number or a text: a reader needn't look again.
     pub ghost sound: { IsTrue (is_sound (view_sense sense)) },
 }
+
+/// Words that follow one another, as what is left to read.
+///
+/// A loop holds what is left in this struct: it isn't proved over a bare slice of items that hold references.
+#[derive(Clone, Copy, Debug)]
+pub struct Words<'a> {
+    pub words: &'a [Word<'a>],
+}

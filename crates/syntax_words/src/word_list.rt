@@ -6,7 +6,7 @@ ghost use Rattle.py_tree.specs.Names as names;
 ghost use Rattle.syntax_form.specs.Literals.{constants};
 ghost use Rattle.syntax_reading.specs.Words as reading;
 ghost use Rattle.syntax_words.specs.SenseView.{view_sense};
-ghost use Rattle.syntax_words.specs.WordView.{word_of_item, words_of};
+ghost use Rattle.syntax_words.specs.WordView.{view_word, view_words};
 
 use crate::sense::Sense;
 use crate::spelled::{fixed_keyword, fixed_mark};
@@ -74,7 +74,7 @@ fn sense_of(token: &Token) -> Sense<'_>
 
 // The word that a token is.
 fn word_of(token: &Token) -> Word<'_>
-    ensures { word_of_item result ≡ reading.word_of (view_token token.now) }
+    ensures { view_word result ≡ reading.word_of (view_token token.now) }
 {
     Word {
         sense: sense_of(token),
@@ -83,7 +83,7 @@ fn word_of(token: &Token) -> Word<'_>
 
 /// The words that tokens are, in the same order. Each token is looked at once.
 pub fn words(alloc: Global, tokens: &[Token]) -> Result<Vec<Word<'_>>, AllocError>
-    ensures { IfOk result (λ ws. words_of ws.items ≡ reading.words (map view_token tokens.now)) }
+    ensures { IfOk result (λ ws. view_words ws.items ≡ reading.words (map view_token tokens.now)) }
 {
     let mut words = Vec::with_capacity(alloc, tokens.len())?;
     for token in tokens {
