@@ -1,5 +1,5 @@
 -- Pieces of the reading that methods have of their own.
-use Rattle.std.specs.Prelude.{ℕ, ◌+◌, Bool, List, [], ◌∷◌, ◌++◌, length, Option, Some, None}
+use Rattle.std.specs.Prelude.{ℕ, ◌+◌, Bool, true, false, List, [], ◌∷◌, ◌++◌, length, Option, Some, None}
 use Rattle.syntax_form.specs.SpelledTokens.{token_list}
 use Rattle.syntax_reading.specs.Items.{each, items, items_on}
 use Rattle.syntax_reading.specs.Parts.{Argument, plain, first_comparison, on_none, pairs_of}
@@ -75,3 +75,7 @@ with_value before (Some t) convert spec = Some (before ++ filled t convert spec 
 abbrev pub with_piece : Reader Tree → List Text → Piece → Option (List Text)
 with_piece whole before (characters cs) = Some (before ++ plain_text cs ∷ [])
 with_piece whole before (field ts convert spec) = with_value before (field_tree whole ts) convert spec
+
+-- behind `OPERAND is`
+abbrev pub is_tail : Tree → Reader Tree
+is_tail t ts = on is.not_ (none_behind false t ts) (none_behind true t) ts

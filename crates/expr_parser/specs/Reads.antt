@@ -1,19 +1,18 @@
 -- What a function that reads has returned.
-use Rattle.std.specs.Prelude.{◌≡◌, ℕ, ◌≤◌, List, Option, Some, None, Result, Ok, Err, IfOk, IfSome}
-use Rattle.std.specs.Borrow.{Bor}
+use Rattle.std.specs.Prelude.{◌≡◌, ℕ, ◌≤◌, Option, Some, None, Result, Ok, Err}
 use Rattle.std.specs.declared.alloc.AllocError.{AllocError}
 use Rattle.syntax_reading.specs.Readers.{Read}
 use Rattle.syntax_words.specs.WordView.{words_of}
-use Rattle.syntax_words.specs.declared.word.Word.{Word}
+use Rattle.syntax_words.specs.declared.word.Words.{Words}
 
 -- what a function that reads something gives
 abbrev pub Given : Type 0 → Type 0
-Given X = Result (Option (X × Bor (List Word))) AllocError
+Given X = Result (Option (X × Words)) AllocError
 
 -- what reading gives, seen as pure data and words, unless memory ran out
 abbrev pub Reads : {X Y : Type 0} → (X → Y) → Given X → Read Y → Type 0
 Reads seen (Ok None) given = given ≡ None
-Reads seen (Ok (Some p)) given = given ≡ Some (seen p.0, words_of p.1.now)
+Reads seen (Ok (Some p)) given = given ≡ Some (seen p.0, words_of p.1)
 Reads seen (Err e) given = Unit {0}
 
 -- what was read is at most so deep

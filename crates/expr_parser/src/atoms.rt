@@ -19,15 +19,15 @@ use crate::texts::Texts;
 use py_tokens::{Piece, Pieces, Tokens};
 use py_tree::Spelling;
 use std::alloc::{AllocError, Global};
-use syntax_words::{Atom, Level, Word, first_atom, words};
+use syntax_words::{Atom, Level, Words, first_atom, words};
 
-impl<F: for<'a> Fn(Global, &'a [Word<'a>], u32, Level) -> Result<Option<(Part, &'a [Word<'a>])>, AllocError>> Grammar<F> {
+impl<F: Fn(Global, Words, u32, Level) -> Result<Option<(Part, Words)>, AllocError>> Grammar<F> {
     /// A name, a literal, an f-text, or what stands in brackets.
     #[tactic(auto, unfolding(crate::specs::Unfolded::atom))]
-    pub fn atom<'a>(&self, words: &'a [Word<'a>]) -> Reading<'a, Part>
+    pub fn atom<'a>(&self, words: Words<'a>) -> Reading<'a, Part>
         requires nests { Nests self.now.below (F.pre self.now.deeper) (F.post self.now.deeper) }
         requires small { self.now.below + 1 < 2 ^ 32 }
-        ensures value { Reads (λ p. view p.expr) result (reading.atom (reading.read self.now.below) (self.now.below + 1) (words_of words.now)) }
+        ensures value { Reads (λ p. view p.expr) result (reading.atom (reading.read self.now.below) (self.now.below + 1) (words_of words.entry)) }
         ensures shallow { Within (λ p. p.depth) (self.now.below + 1) result }
     {
         let Some((atom, rest)) = first_atom(words) else {
@@ -42,11 +42,11 @@ impl<F: for<'a> Fn(Global, &'a [Word<'a>], u32, Level) -> Result<Option<(Part, &
     }
 
     /// A text with fields, whose expressions are read.
-    fn f_text<'a>(&self, spelling: &Spelling, pieces: &Pieces, words: &'a [Word<'a>]) -> Reading<'a, Part>
+    fn f_text<'a>(&self, spelling: &Spelling, pieces: &Pieces, words: Words<'a>) -> Reading<'a, Part>
         requires nests { Nests self.now.below (F.pre self.now.deeper) (F.post self.now.deeper) }
         requires small { self.now.below + 1 < 2 ^ 32 }
         ensures value { Reads (λ p. view p.expr) result
-            (reading.with_parts (reading.read self.now.below) (self.now.below + 1) spelling.now (words_of words.now)
+            (reading.with_parts (reading.read self.now.below) (self.now.below + 1) spelling.now (words_of words.entry)
             (reading.parts (reading.read self.now.below) (self.now.below + 1) (view_pieces pieces.now))) }
         ensures shallow { Within (λ p. p.depth) (self.now.below + 1) result }
     {
@@ -103,11 +103,14 @@ impl<F: for<'a> Fn(Global, &'a [Word<'a>], u32, Level) -> Result<Option<(Part, &
         ensures value { IfOk result (λ o. option_map (λ p. view p.expr) o ≡ field_tree (reading.read self.now.below E1) (view_tokens tokens.now)) }
         ensures shallow { IfOk result (λ o. IfSome o (λ p. p.depth ≤ self.now.below)) }
     {
-        let words = words(self.alloc, tokens.items())?;
-        let Some((part, rest)) = self.inner(words.as_slice(), Level::E1)? else {
+        let list = words(self.alloc, tokens.items())?;
+        let words = Words {
+            words: list.as_slice(),
+        };
+        let Some((part, rest)) = self.inner(words, Level::E1)? else {
             return Ok(None);
         };
-        if rest.is_empty() {
+        if rest.words.is_empty() {
             Ok(Some(part))
         } else {
             Ok(None)

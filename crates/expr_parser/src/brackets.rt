@@ -22,14 +22,14 @@ use crate::names::targets;
 use crate::part::Part;
 use crate::simple::paren;
 use std::alloc::{AllocError, Global};
-use syntax_words::{Bracket, Fixed, Level, Word, after, first_if};
+use syntax_words::{Bracket, Fixed, Level, Words, after, first_if};
 
-impl<F: for<'a> Fn(Global, &'a [Word<'a>], u32, Level) -> Result<Option<(Part, &'a [Word<'a>])>, AllocError>> Grammar<F> {
+impl<F: Fn(Global, Words, u32, Level) -> Result<Option<(Part, Words)>, AllocError>> Grammar<F> {
     /// What stands behind an opening bracket, up to the one that closes it.
-    pub fn bracketed<'a>(&self, bracket: Bracket, words: &'a [Word<'a>]) -> Reading<'a, Part>
+    pub fn bracketed<'a>(&self, bracket: Bracket, words: Words<'a>) -> Reading<'a, Part>
         requires nests { Nests self.now.below (F.pre self.now.deeper) (F.post self.now.deeper) }
         requires small { self.now.below + 1 < 2 ^ 32 }
-        ensures value { Reads (λ p. view p.expr) result (reading.bracketed (reading.read self.now.below) (self.now.below + 1) (view_bracket bracket) (words_of words.now)) }
+        ensures value { Reads (λ p. view p.expr) result (reading.bracketed (reading.read self.now.below) (self.now.below + 1) (view_bracket bracket) (words_of words.entry)) }
         ensures shallow { Within (λ p. p.depth) (self.now.below + 1) result }
     {
         match bracket {
@@ -41,10 +41,10 @@ impl<F: for<'a> Fn(Global, &'a [Word<'a>], u32, Level) -> Result<Option<(Part, &
 
     /// What stands behind `(`.
     #[tactic(auto, unfolding(crate::specs::Unfolded::round))]
-    fn round<'a>(&self, words: &'a [Word<'a>]) -> Reading<'a, Part>
+    fn round<'a>(&self, words: Words<'a>) -> Reading<'a, Part>
         requires nests { Nests self.now.below (F.pre self.now.deeper) (F.post self.now.deeper) }
         requires small { self.now.below + 1 < 2 ^ 32 }
-        ensures value { Reads (λ p. view p.expr) result (reading.round (reading.read self.now.below) (self.now.below + 1) (words_of words.now)) }
+        ensures value { Reads (λ p. view p.expr) result (reading.round (reading.read self.now.below) (self.now.below + 1) (words_of words.entry)) }
         ensures shallow { Within (λ p. p.depth) (self.now.below + 1) result }
     {
         if let Some(rest) = after(Fixed::RoundClose, words) {
@@ -57,11 +57,11 @@ impl<F: for<'a> Fn(Global, &'a [Word<'a>], u32, Level) -> Result<Option<(Part, &
     }
 
     /// What stands behind `(FIRST`.
-    fn more_in_round<'a>(&self, first: Part, words: &'a [Word<'a>]) -> Reading<'a, Part>
+    fn more_in_round<'a>(&self, first: Part, words: Words<'a>) -> Reading<'a, Part>
         requires nests { Nests self.now.below (F.pre self.now.deeper) (F.post self.now.deeper) }
         requires small { self.now.below + 1 < 2 ^ 32 }
         requires shallow { first.depth ≤ self.now.below }
-        ensures value { Reads (λ p. view p.expr) result (more_in_round (reading.read self.now.below) (view first.expr) (words_of words.now)) }
+        ensures value { Reads (λ p. view p.expr) result (more_in_round (reading.read self.now.below) (view first.expr) (words_of words.entry)) }
         ensures shallow { Within (λ p. p.depth) (self.now.below + 1) result }
     {
         if let Some(rest) = after(Fixed::Comma, words) {
@@ -74,11 +74,11 @@ impl<F: for<'a> Fn(Global, &'a [Word<'a>], u32, Level) -> Result<Option<(Part, &
     }
 
     /// What stands behind `(FIRST,`.
-    fn tuple_behind<'a>(&self, first: Part, words: &'a [Word<'a>]) -> Reading<'a, Part>
+    fn tuple_behind<'a>(&self, first: Part, words: Words<'a>) -> Reading<'a, Part>
         requires nests { Nests self.now.below (F.pre self.now.deeper) (F.post self.now.deeper) }
         requires small { self.now.below + 1 < 2 ^ 32 }
         requires shallow { first.depth ≤ self.now.below }
-        ensures value { Reads (λ p. view p.expr) result (tuple_behind (reading.read self.now.below) (view first.expr) (words_of words.now)) }
+        ensures value { Reads (λ p. view p.expr) result (tuple_behind (reading.read self.now.below) (view first.expr) (words_of words.entry)) }
         ensures shallow { Within (λ p. p.depth) (self.now.below + 1) result }
     {
         let before = Parts::new(self.alloc).with(first)?;
@@ -90,10 +90,10 @@ impl<F: for<'a> Fn(Global, &'a [Word<'a>], u32, Level) -> Result<Option<(Part, &
 
     /// What stands behind `[`.
     #[tactic(auto, unfolding(crate::specs::Unfolded::square))]
-    fn square<'a>(&self, words: &'a [Word<'a>]) -> Reading<'a, Part>
+    fn square<'a>(&self, words: Words<'a>) -> Reading<'a, Part>
         requires nests { Nests self.now.below (F.pre self.now.deeper) (F.post self.now.deeper) }
         requires small { self.now.below + 1 < 2 ^ 32 }
-        ensures value { Reads (λ p. view p.expr) result (reading.square (reading.read self.now.below) (self.now.below + 1) (words_of words.now)) }
+        ensures value { Reads (λ p. view p.expr) result (reading.square (reading.read self.now.below) (self.now.below + 1) (words_of words.entry)) }
         ensures shallow { Within (λ p. p.depth) (self.now.below + 1) result }
     {
         if let Some(rest) = after(Fixed::SquareClose, words) {
@@ -106,11 +106,11 @@ impl<F: for<'a> Fn(Global, &'a [Word<'a>], u32, Level) -> Result<Option<(Part, &
     }
 
     /// What stands behind `[FIRST`.
-    fn more_in_square<'a>(&self, first: Part, words: &'a [Word<'a>]) -> Reading<'a, Part>
+    fn more_in_square<'a>(&self, first: Part, words: Words<'a>) -> Reading<'a, Part>
         requires nests { Nests self.now.below (F.pre self.now.deeper) (F.post self.now.deeper) }
         requires small { self.now.below + 1 < 2 ^ 32 }
         requires shallow { first.depth ≤ self.now.below }
-        ensures value { Reads (λ p. view p.expr) result (more_in_square (reading.read self.now.below) (self.now.below + 1) (view first.expr) (words_of words.now)) }
+        ensures value { Reads (λ p. view p.expr) result (more_in_square (reading.read self.now.below) (self.now.below + 1) (view first.expr) (words_of words.entry)) }
         ensures shallow { Within (λ p. p.depth) (self.now.below + 1) result }
     {
         if let Some(rest) = after(Fixed::For, words) {
@@ -123,11 +123,11 @@ impl<F: for<'a> Fn(Global, &'a [Word<'a>], u32, Level) -> Result<Option<(Part, &
     }
 
     /// What stands behind `[ITEM for`.
-    fn list_clause<'a>(&self, item: Part, words: &'a [Word<'a>]) -> Reading<'a, Part>
+    fn list_clause<'a>(&self, item: Part, words: Words<'a>) -> Reading<'a, Part>
         requires nests { Nests self.now.below (F.pre self.now.deeper) (F.post self.now.deeper) }
         requires small { self.now.below + 1 < 2 ^ 32 }
         requires shallow { item.depth ≤ self.now.below }
-        ensures value { Reads (λ p. view p.expr) result (list_clause (reading.read self.now.below) (self.now.below + 1) (view item.expr) (words_of words.now)) }
+        ensures value { Reads (λ p. view p.expr) result (list_clause (reading.read self.now.below) (self.now.below + 1) (view item.expr) (words_of words.entry)) }
         ensures shallow { Within (λ p. p.depth) (self.now.below + 1) result }
     {
         let Some((clause, rest)) = self.clause(words)? else {
@@ -141,10 +141,10 @@ impl<F: for<'a> Fn(Global, &'a [Word<'a>], u32, Level) -> Result<Option<(Part, &
 
     /// What stands behind `{`.
     #[tactic(auto, unfolding(crate::specs::Unfolded::brace))]
-    fn brace<'a>(&self, words: &'a [Word<'a>]) -> Reading<'a, Part>
+    fn brace<'a>(&self, words: Words<'a>) -> Reading<'a, Part>
         requires nests { Nests self.now.below (F.pre self.now.deeper) (F.post self.now.deeper) }
         requires small { self.now.below + 1 < 2 ^ 32 }
-        ensures value { Reads (λ p. view p.expr) result (reading.brace (reading.read self.now.below) (self.now.below + 1) (words_of words.now)) }
+        ensures value { Reads (λ p. view p.expr) result (reading.brace (reading.read self.now.below) (self.now.below + 1) (words_of words.entry)) }
         ensures shallow { Within (λ p. p.depth) (self.now.below + 1) result }
     {
         if let Some(rest) = after(Fixed::BraceClose, words) {
@@ -157,11 +157,11 @@ impl<F: for<'a> Fn(Global, &'a [Word<'a>], u32, Level) -> Result<Option<(Part, &
     }
 
     /// What stands behind `{KEY: ITEM`.
-    fn more_in_brace<'a>(&self, first: Entry, words: &'a [Word<'a>]) -> Reading<'a, Part>
+    fn more_in_brace<'a>(&self, first: Entry, words: Words<'a>) -> Reading<'a, Part>
         requires nests { Nests self.now.below (F.pre self.now.deeper) (F.post self.now.deeper) }
         requires small { self.now.below + 1 < 2 ^ 32 }
         requires shallow { max first.key.depth first.item.depth ≤ self.now.below }
-        ensures value { Reads (λ p. view p.expr) result (more_in_brace (reading.read self.now.below) (self.now.below + 1) (view first.key.expr, view first.item.expr) (words_of words.now)) }
+        ensures value { Reads (λ p. view p.expr) result (more_in_brace (reading.read self.now.below) (self.now.below + 1) (view first.key.expr, view first.item.expr) (words_of words.entry)) }
         ensures shallow { Within (λ p. p.depth) (self.now.below + 1) result }
     {
         if let Some(rest) = after(Fixed::For, words) {
@@ -174,11 +174,11 @@ impl<F: for<'a> Fn(Global, &'a [Word<'a>], u32, Level) -> Result<Option<(Part, &
     }
 
     /// What stands behind `{KEY: ITEM for`.
-    fn dict_clause<'a>(&self, entry: Entry, words: &'a [Word<'a>]) -> Reading<'a, Part>
+    fn dict_clause<'a>(&self, entry: Entry, words: Words<'a>) -> Reading<'a, Part>
         requires nests { Nests self.now.below (F.pre self.now.deeper) (F.post self.now.deeper) }
         requires small { self.now.below + 1 < 2 ^ 32 }
         requires shallow { max entry.key.depth entry.item.depth ≤ self.now.below }
-        ensures value { Reads (λ p. view p.expr) result (dict_clause (reading.read self.now.below) (self.now.below + 1) (view entry.key.expr, view entry.item.expr) (words_of words.now)) }
+        ensures value { Reads (λ p. view p.expr) result (dict_clause (reading.read self.now.below) (self.now.below + 1) (view entry.key.expr, view entry.item.expr) (words_of words.entry)) }
         ensures shallow { Within (λ p. p.depth) (self.now.below + 1) result }
     {
         let Some((clause, rest)) = self.clause(words)? else {
@@ -192,10 +192,10 @@ impl<F: for<'a> Fn(Global, &'a [Word<'a>], u32, Level) -> Result<Option<(Part, &
 
     /// What stands behind `for` in a comprehension.
     #[tactic(auto, unfolding(crate::specs::Unfolded::clause), using(crate::proofs::Words::tests_are))]
-    fn clause<'a>(&self, words: &'a [Word<'a>]) -> Reading<'a, Clause>
+    fn clause<'a>(&self, words: Words<'a>) -> Reading<'a, Clause>
         requires nests { Nests self.now.below (F.pre self.now.deeper) (F.post self.now.deeper) }
         ensures value { Reads (λ c. (c.targets.items, view c.from.expr, trees_of (trees c.tests.items.items))) result
-            (reading.clause (reading.read self.now.below) (self.now.below + 1) (words_of words.now)) }
+            (reading.clause (reading.read self.now.below) (self.now.below + 1) (words_of words.entry)) }
         ensures shallow { Within (λ c. max c.from.depth c.tests.depth) self.now.below result }
     {
         let Some((targets, rest)) = targets(self.alloc, Fixed::In, words)? else {
@@ -212,9 +212,9 @@ impl<F: for<'a> Fn(Global, &'a [Word<'a>], u32, Level) -> Result<Option<(Part, &
 
     /// Tests, each with `if` before it.
     #[tactic(auto, unfolding(crate::specs::Unfolded::each))]
-    fn tests<'a>(&self, turns: usize, words: &'a [Word<'a>]) -> Reading<'a, Parts>
+    fn tests<'a>(&self, turns: usize, words: Words<'a>) -> Reading<'a, Parts>
         requires nests { Nests self.now.below (F.pre self.now.deeper) (F.post self.now.deeper) }
-        ensures value { Reads (λ ps. tests_on (trees ps.items.items)) result (each parts.first_if (reading.read self.now.below E2) turns [] (words_of words.now)) }
+        ensures value { Reads (λ ps. tests_on (trees ps.items.items)) result (each parts.first_if (reading.read self.now.below E2) turns [] (words_of words.entry)) }
         ensures shallow { Within (λ ps. ps.depth) self.now.below result }
     {
         let mut found = Parts::new(self.alloc);

@@ -9,14 +9,14 @@ ghost use Rattle.expr_parser.specs.Reads.{Reads, Within};
 
 use crate::part::Part;
 use std::alloc::{AllocError, Global};
-use syntax_words::{Level, Word};
+use syntax_words::{Level, Words};
 
 /// What was read, and the words behind it; None where the words begin nothing of the kind.
-pub type Reading<'a, T> = Result<Option<(T, &'a [Word<'a>])>, AllocError>;
+pub type Reading<'a, T> = Result<Option<(T, Words<'a>)>, AllocError>;
 
 /// An expression of at most this depth, at this level or a tighter one.
-pub fn read<'a>(alloc: Global, words: &'a [Word<'a>], room: u32, level: Level) -> Result<Option<(Part, &'a [Word<'a>])>, AllocError>
-    ensures value { Reads (λ p. view p.expr) result (reading.read room (view_level level) (words_of words.now)) }
+pub fn read<'a>(alloc: Global, words: Words<'a>, room: u32, level: Level) -> Result<Option<(Part, Words<'a>)>, AllocError>
+    ensures value { Reads (λ p. view p.expr) result (reading.read room (view_level level) (words_of words.entry)) }
     ensures shallow { Within (λ p. p.depth) room result }
 {
     if room == 0 {
@@ -39,21 +39,21 @@ pub struct Grammar<F> {
     pub deeper: F,
 }
 
-impl<F: for<'a> Fn(Global, &'a [Word<'a>], u32, Level) -> Result<Option<(Part, &'a [Word<'a>])>, AllocError>> Grammar<F> {
+impl<F: Fn(Global, Words, u32, Level) -> Result<Option<(Part, Words)>, AllocError>> Grammar<F> {
     /// An expression that lies deeper.
-    pub fn inner<'a>(&self, words: &'a [Word<'a>], level: Level) -> Reading<'a, Part>
+    pub fn inner<'a>(&self, words: Words<'a>, level: Level) -> Reading<'a, Part>
         requires { Nests self.now.below (F.pre self.now.deeper) (F.post self.now.deeper) }
-        ensures value { Reads (λ p. view p.expr) result (reading.read self.now.below (view_level level) (words_of words.now)) }
+        ensures value { Reads (λ p. view p.expr) result (reading.read self.now.below (view_level level) (words_of words.entry)) }
         ensures shallow { Within (λ p. p.depth) self.now.below result }
     {
         (self.deeper)(self.alloc, words, self.below, level)
     }
 
     /// An expression of this depth or a lesser one, at this level or a tighter one.
-    fn at_level<'a>(&self, words: &'a [Word<'a>], level: Level) -> Reading<'a, Part>
+    fn at_level<'a>(&self, words: Words<'a>, level: Level) -> Reading<'a, Part>
         requires nests { Nests self.now.below (F.pre self.now.deeper) (F.post self.now.deeper) }
         requires small { self.now.below + 1 < 2 ^ 32 }
-        ensures value { Reads (λ p. view p.expr) result (reading.at_level (reading.read self.now.below) (self.now.below + 1) (view_level level) (words_of words.now)) }
+        ensures value { Reads (λ p. view p.expr) result (reading.at_level (reading.read self.now.below) (self.now.below + 1) (view_level level) (words_of words.entry)) }
         ensures shallow { Within (λ p. p.depth) (self.now.below + 1) result }
     {
         match level {

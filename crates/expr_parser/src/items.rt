@@ -19,16 +19,16 @@ use crate::lists::{Arguments, Entry, Given, Pairs, Parts};
 use crate::part::Part;
 use crate::simple::copy;
 use std::alloc::{AllocError, Global};
-use syntax_words::{Fixed, Level, Word, after, first_keyword};
+use syntax_words::{Fixed, Level, Words, after, first_keyword};
 
-impl<F: for<'a> Fn(Global, &'a [Word<'a>], u32, Level) -> Result<Option<(Part, &'a [Word<'a>])>, AllocError>> Grammar<F> {
+impl<F: Fn(Global, Words, u32, Level) -> Result<Option<(Part, Words)>, AllocError>> Grammar<F> {
     /// Expressions behind those before, and whether a comma stood behind the last one.
     #[tactic(auto, unfolding(crate::specs::Unfolded::items))]
-    pub fn parts<'a>(&self, close: Fixed, turns: usize, before: Parts, words: &'a [Word<'a>]) -> Reading<'a, (Parts, bool)>
+    pub fn parts<'a>(&self, close: Fixed, turns: usize, before: Parts, words: Words<'a>) -> Reading<'a, (Parts, bool)>
         requires nests { Nests self.now.below (F.pre self.now.deeper) (F.post self.now.deeper) }
         requires shallow { before.depth ≤ self.now.below }
         ensures value { Reads (λ p. (trees p.0.items.items, p.1)) result
-            (items (reading.read self.now.below E1) (by (view_fixed close)) turns (trees before.items.items) (words_of words.now)) }
+            (items (reading.read self.now.below E1) (by (view_fixed close)) turns (trees before.items.items) (words_of words.entry)) }
         ensures shallow { Within (λ p. p.0.depth) self.now.below result }
     {
         let mut found = before;
@@ -55,11 +55,11 @@ impl<F: for<'a> Fn(Global, &'a [Word<'a>], u32, Level) -> Result<Option<(Part, &
 
     /// Arguments behind those before, and whether a comma stood behind the last one.
     #[tactic(auto, unfolding(crate::specs::Unfolded::items))]
-    pub fn arguments<'a>(&self, turns: usize, before: Arguments, words: &'a [Word<'a>]) -> Reading<'a, (Arguments, bool)>
+    pub fn arguments<'a>(&self, turns: usize, before: Arguments, words: Words<'a>) -> Reading<'a, (Arguments, bool)>
         requires nests { Nests self.now.below (F.pre self.now.deeper) (F.post self.now.deeper) }
         requires shallow { before.depth ≤ self.now.below }
         ensures value { Reads (λ p. (seen_arguments p.0.items.items, p.1)) result
-            (items (reading.argument (reading.read self.now.below) (self.now.below + 1)) (by round_close) turns (seen_arguments before.items.items) (words_of words.now)) }
+            (items (reading.argument (reading.read self.now.below) (self.now.below + 1)) (by round_close) turns (seen_arguments before.items.items) (words_of words.entry)) }
         ensures shallow { Within (λ p. p.0.depth) self.now.below result }
     {
         let mut found = before;
@@ -86,11 +86,11 @@ impl<F: for<'a> Fn(Global, &'a [Word<'a>], u32, Level) -> Result<Option<(Part, &
 
     /// Keys with their items behind those before, and whether a comma stood behind the last one.
     #[tactic(auto, unfolding(crate::specs::Unfolded::items))]
-    pub fn pairs<'a>(&self, turns: usize, before: Pairs, words: &'a [Word<'a>]) -> Reading<'a, (Pairs, bool)>
+    pub fn pairs<'a>(&self, turns: usize, before: Pairs, words: Words<'a>) -> Reading<'a, (Pairs, bool)>
         requires nests { Nests self.now.below (F.pre self.now.deeper) (F.post self.now.deeper) }
         requires shallow { before.depth ≤ self.now.below }
         ensures value { Reads (λ p. (seen_pairs p.0.items.items, p.1)) result
-            (items (reading.key_item (reading.read self.now.below) (self.now.below + 1)) (by brace_close) turns (seen_pairs before.items.items) (words_of words.now)) }
+            (items (reading.key_item (reading.read self.now.below) (self.now.below + 1)) (by brace_close) turns (seen_pairs before.items.items) (words_of words.entry)) }
         ensures shallow { Within (λ p. p.0.depth) self.now.below result }
     {
         let mut found = before;
@@ -116,10 +116,10 @@ impl<F: for<'a> Fn(Global, &'a [Word<'a>], u32, Level) -> Result<Option<(Part, &
     }
 
     /// `VALUE` or `NAME=VALUE`
-    fn argument<'a>(&self, words: &'a [Word<'a>]) -> Reading<'a, Given>
+    fn argument<'a>(&self, words: Words<'a>) -> Reading<'a, Given>
         requires nests { Nests self.now.below (F.pre self.now.deeper) (F.post self.now.deeper) }
         ensures value { Reads (λ g. argument_of g.name (view g.value.expr)) result
-            (reading.argument (reading.read self.now.below) (self.now.below + 1) (words_of words.now)) }
+            (reading.argument (reading.read self.now.below) (self.now.below + 1) (words_of words.entry)) }
         ensures shallow { Within (λ g. g.value.depth) self.now.below result }
     {
         let Some((name, rest)) = first_keyword(words) else {
@@ -132,9 +132,9 @@ impl<F: for<'a> Fn(Global, &'a [Word<'a>], u32, Level) -> Result<Option<(Part, &
         Ok(Some((Given { name, value }, rest)))
     }
 
-    fn positional<'a>(&self, words: &'a [Word<'a>]) -> Reading<'a, Given>
+    fn positional<'a>(&self, words: Words<'a>) -> Reading<'a, Given>
         requires nests { Nests self.now.below (F.pre self.now.deeper) (F.post self.now.deeper) }
-        ensures value { Reads (λ g. argument_of g.name (view g.value.expr)) result (positional (reading.read self.now.below E1) (words_of words.now)) }
+        ensures value { Reads (λ g. argument_of g.name (view g.value.expr)) result (positional (reading.read self.now.below E1) (words_of words.entry)) }
         ensures shallow { Within (λ g. g.value.depth) self.now.below result }
     {
         let Some((value, rest)) = self.inner(words, Level::E1)? else {
@@ -144,10 +144,10 @@ impl<F: for<'a> Fn(Global, &'a [Word<'a>], u32, Level) -> Result<Option<(Part, &
     }
 
     /// `KEY: ITEM`
-    pub fn entry<'a>(&self, words: &'a [Word<'a>]) -> Reading<'a, Entry>
+    pub fn entry<'a>(&self, words: Words<'a>) -> Reading<'a, Entry>
         requires nests { Nests self.now.below (F.pre self.now.deeper) (F.post self.now.deeper) }
         ensures value { Reads (λ e. (view e.key.expr, view e.item.expr)) result
-            (reading.key_item (reading.read self.now.below) (self.now.below + 1) (words_of words.now)) }
+            (reading.key_item (reading.read self.now.below) (self.now.below + 1) (words_of words.entry)) }
         ensures shallow { Within (λ e. max e.key.depth e.item.depth) self.now.below result }
     {
         let Some((key, rest)) = self.inner(words, Level::E1)? else {
@@ -163,11 +163,11 @@ impl<F: for<'a> Fn(Global, &'a [Word<'a>], u32, Level) -> Result<Option<(Part, &
     }
 
     /// Expressions behind a first one, and whether a comma stood behind the last one.
-    pub fn parts_on<'a>(&self, close: Fixed, first: Part, words: &'a [Word<'a>]) -> Reading<'a, (Parts, bool)>
+    pub fn parts_on<'a>(&self, close: Fixed, first: Part, words: Words<'a>) -> Reading<'a, (Parts, bool)>
         requires nests { Nests self.now.below (F.pre self.now.deeper) (F.post self.now.deeper) }
         requires shallow { first.depth ≤ self.now.below }
         ensures value { Reads (λ p. (trees p.0.items.items, p.1)) result
-            (items_on (reading.read self.now.below E1) (by (view_fixed close)) (view first.expr) (words_of words.now)) }
+            (items_on (reading.read self.now.below E1) (by (view_fixed close)) (view first.expr) (words_of words.entry)) }
         ensures shallow { Within (λ p. p.0.depth) self.now.below result }
     {
         let found = Parts::new(self.alloc).with(first)?;
@@ -181,11 +181,11 @@ impl<F: for<'a> Fn(Global, &'a [Word<'a>], u32, Level) -> Result<Option<(Part, &
     }
 
     /// Keys with their items behind a first one, and whether a comma stood behind the last one.
-    pub fn pairs_on<'a>(&self, first: Entry, words: &'a [Word<'a>]) -> Reading<'a, (Pairs, bool)>
+    pub fn pairs_on<'a>(&self, first: Entry, words: Words<'a>) -> Reading<'a, (Pairs, bool)>
         requires nests { Nests self.now.below (F.pre self.now.deeper) (F.post self.now.deeper) }
         requires shallow { max first.key.depth first.item.depth ≤ self.now.below }
         ensures value { Reads (λ p. (seen_pairs p.0.items.items, p.1)) result
-            (items_on (reading.key_item (reading.read self.now.below) (self.now.below + 1)) (by brace_close) (view first.key.expr, view first.item.expr) (words_of words.now)) }
+            (items_on (reading.key_item (reading.read self.now.below) (self.now.below + 1)) (by brace_close) (view first.key.expr, view first.item.expr) (words_of words.entry)) }
         ensures shallow { Within (λ p. p.0.depth) self.now.below result }
     {
         let found = Pairs::new(self.alloc).with(first)?;

@@ -12,15 +12,15 @@ use crate::grammar::{Grammar, Reading};
 use crate::part::Part;
 use crate::simple::{binary, conditional, power, prefixed};
 use std::alloc::{AllocError, Global};
-use syntax_words::{Fixed, Level, Word, after, first_operator, first_prefix, Prefix};
+use syntax_words::{Fixed, Level, Words, after, first_operator, first_prefix, Prefix};
 
-impl<F: for<'a> Fn(Global, &'a [Word<'a>], u32, Level) -> Result<Option<(Part, &'a [Word<'a>])>, AllocError>> Grammar<F> {
+impl<F: Fn(Global, Words, u32, Level) -> Result<Option<(Part, Words)>, AllocError>> Grammar<F> {
     /// An expression of any level: perhaps with `if` and `else` behind it.
     #[tactic(auto, unfolding(crate::specs::Unfolded::whole))]
-    pub fn level_1<'a>(&self, words: &'a [Word<'a>]) -> Reading<'a, Part>
+    pub fn level_1<'a>(&self, words: Words<'a>) -> Reading<'a, Part>
         requires nests { Nests self.now.below (F.pre self.now.deeper) (F.post self.now.deeper) }
         requires small { self.now.below + 1 < 2 ^ 32 }
-        ensures value { Reads (λ p. view p.expr) result (reading.level_1 (reading.read self.now.below) (self.now.below + 1) (words_of words.now)) }
+        ensures value { Reads (λ p. view p.expr) result (reading.level_1 (reading.read self.now.below) (self.now.below + 1) (words_of words.entry)) }
         ensures shallow { Within (λ p. p.depth) (self.now.below + 1) result }
     {
         let Some((value, rest)) = self.level_2(words)? else {
@@ -36,11 +36,11 @@ impl<F: for<'a> Fn(Global, &'a [Word<'a>], u32, Level) -> Result<Option<(Part, &
     }
 
     /// What stands behind `VALUE if`.
-    fn conditional<'a>(&self, value: Part, words: &'a [Word<'a>]) -> Reading<'a, Part>
+    fn conditional<'a>(&self, value: Part, words: Words<'a>) -> Reading<'a, Part>
         requires nests { Nests self.now.below (F.pre self.now.deeper) (F.post self.now.deeper) }
         requires small { self.now.below + 1 < 2 ^ 32 }
         requires shallow { value.depth ≤ self.now.below }
-        ensures value { Reads (λ p. view p.expr) result (conditional (reading.read self.now.below) (view value.expr) (words_of words.now)) }
+        ensures value { Reads (λ p. view p.expr) result (conditional (reading.read self.now.below) (view value.expr) (words_of words.entry)) }
         ensures shallow { Within (λ p. p.depth) (self.now.below + 1) result }
     {
         let Some((test, rest)) = self.inner(words, Level::E2)? else {
@@ -57,10 +57,10 @@ impl<F: for<'a> Fn(Global, &'a [Word<'a>], u32, Level) -> Result<Option<(Part, &
 
     /// `or` between operands.
     #[tactic(auto, unfolding(crate::specs::Unfolded::operations))]
-    pub fn level_2<'a>(&self, words: &'a [Word<'a>]) -> Reading<'a, Part>
+    pub fn level_2<'a>(&self, words: Words<'a>) -> Reading<'a, Part>
         requires nests { Nests self.now.below (F.pre self.now.deeper) (F.post self.now.deeper) }
         requires small { self.now.below + 1 < 2 ^ 32 }
-        ensures value { Reads (λ p. view p.expr) result (reading.level_2 (reading.read self.now.below) (self.now.below + 1) (words_of words.now)) }
+        ensures value { Reads (λ p. view p.expr) result (reading.level_2 (reading.read self.now.below) (self.now.below + 1) (words_of words.entry)) }
         ensures shallow { Within (λ p. p.depth) (self.now.below + 1) result }
     {
         let Some((first, rest)) = self.level_3(words)? else {
@@ -71,10 +71,10 @@ impl<F: for<'a> Fn(Global, &'a [Word<'a>], u32, Level) -> Result<Option<(Part, &
 
     /// `and` between operands.
     #[tactic(auto, unfolding(crate::specs::Unfolded::operations))]
-    pub fn level_3<'a>(&self, words: &'a [Word<'a>]) -> Reading<'a, Part>
+    pub fn level_3<'a>(&self, words: Words<'a>) -> Reading<'a, Part>
         requires nests { Nests self.now.below (F.pre self.now.deeper) (F.post self.now.deeper) }
         requires small { self.now.below + 1 < 2 ^ 32 }
-        ensures value { Reads (λ p. view p.expr) result (reading.level_3 (reading.read self.now.below) (self.now.below + 1) (words_of words.now)) }
+        ensures value { Reads (λ p. view p.expr) result (reading.level_3 (reading.read self.now.below) (self.now.below + 1) (words_of words.entry)) }
         ensures shallow { Within (λ p. p.depth) (self.now.below + 1) result }
     {
         let Some((first, rest)) = self.level_4(words)? else {
@@ -85,10 +85,10 @@ impl<F: for<'a> Fn(Global, &'a [Word<'a>], u32, Level) -> Result<Option<(Part, &
 
     /// `not` before an operand.
     #[tactic(auto, unfolding(crate::specs::Unfolded::prefixes))]
-    pub fn level_4<'a>(&self, words: &'a [Word<'a>]) -> Reading<'a, Part>
+    pub fn level_4<'a>(&self, words: Words<'a>) -> Reading<'a, Part>
         requires nests { Nests self.now.below (F.pre self.now.deeper) (F.post self.now.deeper) }
         requires small { self.now.below + 1 < 2 ^ 32 }
-        ensures value { Reads (λ p. view p.expr) result (reading.level_4 (reading.read self.now.below) (self.now.below + 1) (words_of words.now)) }
+        ensures value { Reads (λ p. view p.expr) result (reading.level_4 (reading.read self.now.below) (self.now.below + 1) (words_of words.entry)) }
         ensures shallow { Within (λ p. p.depth) (self.now.below + 1) result }
     {
         let Some((prefix, rest)) = first_prefix(Level::E4, words) else {
@@ -99,10 +99,10 @@ impl<F: for<'a> Fn(Global, &'a [Word<'a>], u32, Level) -> Result<Option<(Part, &
 
     /// `+` and `-` between operands.
     #[tactic(auto, unfolding(crate::specs::Unfolded::operations))]
-    pub fn level_6<'a>(&self, words: &'a [Word<'a>]) -> Reading<'a, Part>
+    pub fn level_6<'a>(&self, words: Words<'a>) -> Reading<'a, Part>
         requires nests { Nests self.now.below (F.pre self.now.deeper) (F.post self.now.deeper) }
         requires small { self.now.below + 1 < 2 ^ 32 }
-        ensures value { Reads (λ p. view p.expr) result (reading.level_6 (reading.read self.now.below) (self.now.below + 1) (words_of words.now)) }
+        ensures value { Reads (λ p. view p.expr) result (reading.level_6 (reading.read self.now.below) (self.now.below + 1) (words_of words.entry)) }
         ensures shallow { Within (λ p. p.depth) (self.now.below + 1) result }
     {
         let Some((first, rest)) = self.level_7(words)? else {
@@ -113,10 +113,10 @@ impl<F: for<'a> Fn(Global, &'a [Word<'a>], u32, Level) -> Result<Option<(Part, &
 
     /// `*`, `//` and `%` between operands.
     #[tactic(auto, unfolding(crate::specs::Unfolded::operations))]
-    pub fn level_7<'a>(&self, words: &'a [Word<'a>]) -> Reading<'a, Part>
+    pub fn level_7<'a>(&self, words: Words<'a>) -> Reading<'a, Part>
         requires nests { Nests self.now.below (F.pre self.now.deeper) (F.post self.now.deeper) }
         requires small { self.now.below + 1 < 2 ^ 32 }
-        ensures value { Reads (λ p. view p.expr) result (reading.level_7 (reading.read self.now.below) (self.now.below + 1) (words_of words.now)) }
+        ensures value { Reads (λ p. view p.expr) result (reading.level_7 (reading.read self.now.below) (self.now.below + 1) (words_of words.entry)) }
         ensures shallow { Within (λ p. p.depth) (self.now.below + 1) result }
     {
         let Some((first, rest)) = self.level_8(words)? else {
@@ -127,10 +127,10 @@ impl<F: for<'a> Fn(Global, &'a [Word<'a>], u32, Level) -> Result<Option<(Part, &
 
     /// `-` and `+` before an operand.
     #[tactic(auto, unfolding(crate::specs::Unfolded::prefixes))]
-    pub fn level_8<'a>(&self, words: &'a [Word<'a>]) -> Reading<'a, Part>
+    pub fn level_8<'a>(&self, words: Words<'a>) -> Reading<'a, Part>
         requires nests { Nests self.now.below (F.pre self.now.deeper) (F.post self.now.deeper) }
         requires small { self.now.below + 1 < 2 ^ 32 }
-        ensures value { Reads (λ p. view p.expr) result (reading.level_8 (reading.read self.now.below) (self.now.below + 1) (words_of words.now)) }
+        ensures value { Reads (λ p. view p.expr) result (reading.level_8 (reading.read self.now.below) (self.now.below + 1) (words_of words.entry)) }
         ensures shallow { Within (λ p. p.depth) (self.now.below + 1) result }
     {
         let Some((prefix, rest)) = first_prefix(Level::E8, words) else {
@@ -140,10 +140,10 @@ impl<F: for<'a> Fn(Global, &'a [Word<'a>], u32, Level) -> Result<Option<(Part, &
     }
 
     /// The operand of an operator that stands before it.
-    fn prefixed<'a>(&self, prefix: Prefix, level: Level, words: &'a [Word<'a>]) -> Reading<'a, Part>
+    fn prefixed<'a>(&self, prefix: Prefix, level: Level, words: Words<'a>) -> Reading<'a, Part>
         requires nests { Nests self.now.below (F.pre self.now.deeper) (F.post self.now.deeper) }
         requires small { self.now.below + 1 < 2 ^ 32 }
-        ensures value { Reads (λ p. view p.expr) result (prefixed_operand (reading.read self.now.below (view_level level)) (view_prefix prefix) (words_of words.now)) }
+        ensures value { Reads (λ p. view p.expr) result (prefixed_operand (reading.read self.now.below (view_level level)) (view_prefix prefix) (words_of words.entry)) }
         ensures shallow { Within (λ p. p.depth) (self.now.below + 1) result }
     {
         let Some((operand, rest)) = self.inner(words, level)? else {
@@ -154,10 +154,10 @@ impl<F: for<'a> Fn(Global, &'a [Word<'a>], u32, Level) -> Result<Option<(Part, &
 
     /// `**` behind its base, and the exponent.
     #[tactic(auto, unfolding(crate::specs::Unfolded::powers))]
-    pub fn powers<'a>(&self, words: &'a [Word<'a>]) -> Reading<'a, Part>
+    pub fn powers<'a>(&self, words: Words<'a>) -> Reading<'a, Part>
         requires nests { Nests self.now.below (F.pre self.now.deeper) (F.post self.now.deeper) }
         requires small { self.now.below + 1 < 2 ^ 32 }
-        ensures value { Reads (λ p. view p.expr) result (reading.powers (reading.read self.now.below) (self.now.below + 1) (words_of words.now)) }
+        ensures value { Reads (λ p. view p.expr) result (reading.powers (reading.read self.now.below) (self.now.below + 1) (words_of words.entry)) }
         ensures shallow { Within (λ p. p.depth) (self.now.below + 1) result }
     {
         let Some((base, rest)) = self.postfix(words)? else {
@@ -177,11 +177,11 @@ impl<F: for<'a> Fn(Global, &'a [Word<'a>], u32, Level) -> Result<Option<(Part, &
 
     /// Operators of a level with their right operands, behind a first operand.
     #[tactic(auto, unfolding(crate::specs::Unfolded::turns))]
-    fn turns<'a>(&self, level: Level, first: Part, words: &'a [Word<'a>]) -> Reading<'a, Part>
+    fn turns<'a>(&self, level: Level, first: Part, words: Words<'a>) -> Reading<'a, Part>
         requires nests { Nests self.now.below (F.pre self.now.deeper) (F.post self.now.deeper) }
         requires small { self.now.below + 1 < 2 ^ 32 }
         requires shallow { first.depth ≤ self.now.below + 1 }
-        ensures value { Reads (λ p. view p.expr) result (reading.turns (reading.read self.now.below) (self.now.below + 1) (view_level level) (self.now.below + 1) (view first.expr) (words_of words.now)) }
+        ensures value { Reads (λ p. view p.expr) result (reading.turns (reading.read self.now.below) (self.now.below + 1) (view_level level) (self.now.below + 1) (view first.expr) (words_of words.entry)) }
         ensures shallow { Within (λ p. p.depth) (self.now.below + 1) result }
     {
         let mut part = first;

@@ -17,3 +17,6 @@ mod part;
 mod simple;
 mod tails;
 mod texts;
+mod whole;
+
+pub use whole::expr;

@@ -12,12 +12,12 @@ use crate::grammar::Reading;
 use crate::simple::copy;
 use py_tree::Spelling;
 use std::alloc::Global;
-use syntax_words::{Fixed, Word, after, first_name};
+use syntax_words::{Fixed, Words, after, first_name};
 
 /// Names up to the word that closes them, and whether a comma stood behind the last one.
 #[tactic(auto, unfolding(crate::specs::Unfolded::items))]
-pub fn names<'a>(alloc: Global, close: Fixed, turns: usize, words: &'a [Word<'a>]) -> Reading<'a, (Vec<Spelling>, bool)>
-    ensures { Reads (λ p. (p.0.items, p.1)) result (items reading.first_name (by (view_fixed close)) turns [] (words_of words.now)) }
+pub fn names<'a>(alloc: Global, close: Fixed, turns: usize, words: Words<'a>) -> Reading<'a, (Vec<Spelling>, bool)>
+    ensures { Reads (λ p. (p.0.items, p.1)) result (items reading.first_name (by (view_fixed close)) turns [] (words_of words.entry)) }
 {
     let mut found = Vec::new(alloc);
     let mut rest = words;
@@ -42,8 +42,8 @@ pub fn names<'a>(alloc: Global, close: Fixed, turns: usize, words: &'a [Word<'a>
 }
 
 /// One name or more up to the word that closes them, with no comma behind the last one.
-pub fn targets<'a>(alloc: Global, close: Fixed, words: &'a [Word<'a>]) -> Reading<'a, Vec<Spelling>>
-    ensures { Reads (λ xs. xs.items) result (reading.targets (view_fixed close) (words_of words.now)) }
+pub fn targets<'a>(alloc: Global, close: Fixed, words: Words<'a>) -> Reading<'a, Vec<Spelling>>
+    ensures { Reads (λ xs. xs.items) result (reading.targets (view_fixed close) (words_of words.entry)) }
 {
     let Some(((names, comma), rest)) = names(alloc, close, turns_for(words), words)? else {
         return Ok(None);

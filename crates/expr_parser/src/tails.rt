@@ -17,15 +17,15 @@ use crate::lists::Arguments;
 use crate::part::Part;
 use crate::simple::{attribute, index, slice};
 use std::alloc::{AllocError, Global};
-use syntax_words::{Fixed, Level, Tail, Word, after, first_name, first_tail};
+use syntax_words::{Fixed, Level, Tail, Words, after, first_name, first_tail};
 
-impl<F: for<'a> Fn(Global, &'a [Word<'a>], u32, Level) -> Result<Option<(Part, &'a [Word<'a>])>, AllocError>> Grammar<F> {
+impl<F: Fn(Global, Words, u32, Level) -> Result<Option<(Part, Words)>, AllocError>> Grammar<F> {
     /// An atom: perhaps with calls, indexes, slices and attributes behind it.
     #[tactic(auto, unfolding(crate::specs::Unfolded::postfix))]
-    pub fn postfix<'a>(&self, words: &'a [Word<'a>]) -> Reading<'a, Part>
+    pub fn postfix<'a>(&self, words: Words<'a>) -> Reading<'a, Part>
         requires nests { Nests self.now.below (F.pre self.now.deeper) (F.post self.now.deeper) }
         requires small { self.now.below + 1 < 2 ^ 32 }
-        ensures value { Reads (λ p. view p.expr) result (reading.postfix (reading.read self.now.below) (self.now.below + 1) (words_of words.now)) }
+        ensures value { Reads (λ p. view p.expr) result (reading.postfix (reading.read self.now.below) (self.now.below + 1) (words_of words.entry)) }
         ensures shallow { Within (λ p. p.depth) (self.now.below + 1) result }
     {
         let Some((first, rest)) = self.atom(words)? else {
@@ -36,11 +36,11 @@ impl<F: for<'a> Fn(Global, &'a [Word<'a>], u32, Level) -> Result<Option<(Part, &
 
     /// Calls, indexes, slices and attributes behind an operand.
     #[tactic(auto, unfolding(crate::specs::Unfolded::tails))]
-    fn tails<'a>(&self, first: Part, words: &'a [Word<'a>]) -> Reading<'a, Part>
+    fn tails<'a>(&self, first: Part, words: Words<'a>) -> Reading<'a, Part>
         requires nests { Nests self.now.below (F.pre self.now.deeper) (F.post self.now.deeper) }
         requires small { self.now.below + 1 < 2 ^ 32 }
         requires shallow { first.depth ≤ self.now.below + 1 }
-        ensures value { Reads (λ p. view p.expr) result (reading.tails (reading.read self.now.below) (self.now.below + 1) (self.now.below + 1) (view first.expr) (words_of words.now)) }
+        ensures value { Reads (λ p. view p.expr) result (reading.tails (reading.read self.now.below) (self.now.below + 1) (self.now.below + 1) (view first.expr) (words_of words.entry)) }
         ensures shallow { Within (λ p. p.depth) (self.now.below + 1) result }
     {
         let mut part = first;
@@ -63,11 +63,11 @@ impl<F: for<'a> Fn(Global, &'a [Word<'a>], u32, Level) -> Result<Option<(Part, &
 
     /// The expression with one call, index, slice or attribute more.
     #[tactic(auto, unfolding(crate::specs::Unfolded::tailed))]
-    fn tailed<'a>(&self, of: Part, tail: Tail, words: &'a [Word<'a>]) -> Reading<'a, Part>
+    fn tailed<'a>(&self, of: Part, tail: Tail, words: Words<'a>) -> Reading<'a, Part>
         requires nests { Nests self.now.below (F.pre self.now.deeper) (F.post self.now.deeper) }
         requires small { self.now.below + 1 < 2 ^ 32 }
         requires shallow { of.depth ≤ self.now.below }
-        ensures value { Reads (λ p. view p.expr) result (reading.tailed (reading.read self.now.below) (self.now.below + 1) (view of.expr) (view_tail tail) (words_of words.now)) }
+        ensures value { Reads (λ p. view p.expr) result (reading.tailed (reading.read self.now.below) (self.now.below + 1) (view of.expr) (view_tail tail) (words_of words.entry)) }
         ensures shallow { Within (λ p. p.depth) (self.now.below + 1) result }
     {
         match tail {
@@ -83,11 +83,11 @@ impl<F: for<'a> Fn(Global, &'a [Word<'a>], u32, Level) -> Result<Option<(Part, &
     }
 
     /// What stands behind `CALLEE(`.
-    fn called<'a>(&self, callee: Part, words: &'a [Word<'a>]) -> Reading<'a, Part>
+    fn called<'a>(&self, callee: Part, words: Words<'a>) -> Reading<'a, Part>
         requires nests { Nests self.now.below (F.pre self.now.deeper) (F.post self.now.deeper) }
         requires small { self.now.below + 1 < 2 ^ 32 }
         requires shallow { callee.depth ≤ self.now.below }
-        ensures value { Reads (λ p. view p.expr) result (reading.called (reading.read self.now.below) (self.now.below + 1) (view callee.expr) (words_of words.now)) }
+        ensures value { Reads (λ p. view p.expr) result (reading.called (reading.read self.now.below) (self.now.below + 1) (view callee.expr) (words_of words.entry)) }
         ensures shallow { Within (λ p. p.depth) (self.now.below + 1) result }
     {
         let none = Arguments::new(self.alloc);
@@ -101,11 +101,11 @@ impl<F: for<'a> Fn(Global, &'a [Word<'a>], u32, Level) -> Result<Option<(Part, &
     }
 
     /// What stands behind `BASE[`.
-    fn indexed<'a>(&self, base: Part, words: &'a [Word<'a>]) -> Reading<'a, Part>
+    fn indexed<'a>(&self, base: Part, words: Words<'a>) -> Reading<'a, Part>
         requires nests { Nests self.now.below (F.pre self.now.deeper) (F.post self.now.deeper) }
         requires small { self.now.below + 1 < 2 ^ 32 }
         requires shallow { base.depth ≤ self.now.below }
-        ensures value { Reads (λ p. view p.expr) result (reading.indexed (reading.read self.now.below) (self.now.below + 1) (view base.expr) (words_of words.now)) }
+        ensures value { Reads (λ p. view p.expr) result (reading.indexed (reading.read self.now.below) (self.now.below + 1) (view base.expr) (words_of words.entry)) }
         ensures shallow { Within (λ p. p.depth) (self.now.below + 1) result }
     {
         if let Some(rest) = after(Fixed::Colon, words) {
@@ -124,13 +124,13 @@ impl<F: for<'a> Fn(Global, &'a [Word<'a>], u32, Level) -> Result<Option<(Part, &
     }
 
     /// What stands behind `BASE[FROM:`.
-    fn slice_end<'a>(&self, base: Part, from: Bound, words: &'a [Word<'a>]) -> Reading<'a, Part>
+    fn slice_end<'a>(&self, base: Part, from: Bound, words: Words<'a>) -> Reading<'a, Part>
         requires nests { Nests self.now.below (F.pre self.now.deeper) (F.post self.now.deeper) }
         requires small { self.now.below + 1 < 2 ^ 32 }
         requires shallow { base.depth ≤ self.now.below }
         requires from { from.depth ≤ self.now.below }
         ensures value { Reads (λ p. view p.expr) result
-            (reading.slice_end (reading.read self.now.below) (self.now.below + 1) (view base.expr) (bound from.expr) (words_of words.now)) }
+            (reading.slice_end (reading.read self.now.below) (self.now.below + 1) (view base.expr) (bound from.expr) (words_of words.entry)) }
         ensures shallow { Within (λ p. p.depth) (self.now.below + 1) result }
     {
         if let Some(rest) = after(Fixed::SquareClose, words) {

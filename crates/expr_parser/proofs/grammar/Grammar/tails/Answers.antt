@@ -13,9 +13,9 @@ pub loop-turn-preserved : goal.loop-turn-preserved
 loop-turn-preserved g c =
     let b = c.args.self.now.below in
     let t = view c.loop-turn.part.expr in
-    let ts = words_of c.loop-turn.rest.now in
-    let us = words_of c.in-Some.after.now in
-    let vs = words_of c.in-Some-2.after.now in
+    let ts = words_of c.loop-turn.rest in
+    let us = words_of c.in-Some.after in
+    let vs = words_of c.in-Some-2.after in
     let u = view c.in-Some-2.longer.expr in
     let k = view_tail c.in-Some.tail in
     let left = b + 1 - (c.loop-turn._turn + 1) in
