@@ -11,6 +11,7 @@ ghost use Rattle.expr_parser.specs.Nests.{Nests};
 ghost use Rattle.expr_parser.specs.Reads.{Reads, Within};
 ghost use Rattle.expr_parser.specs.TextView.{seen_texts, put_all};
 
+use crate::alone::alone;
 use crate::grammar::{Grammar, Reading};
 use crate::listed::f_text;
 use crate::part::Part;
@@ -110,10 +111,6 @@ impl<F: Fn(Global, Words, u32, Level) -> Result<Option<(Part, Words)>, AllocErro
         let Some((part, rest)) = self.inner(words, Level::E1)? else {
             return Ok(None);
         };
-        if rest.words.is_empty() {
-            Ok(Some(part))
-        } else {
-            Ok(None)
-        }
+        Ok(alone(part, rest))
     }
 }

@@ -1,6 +1,7 @@
 //! Expressions from tokens.
 #![tactic(auto)]
 
+mod alone;
 mod atoms;
 mod bound;
 mod brackets;

@@ -8,6 +8,7 @@ ghost use Rattle.syntax_form.specs.Expressions.{IsExpression};
 ghost use Rattle.syntax_form.specs.SpelledTokens.{AreTokens};
 ghost use Rattle.syntax_reading.specs.Reading.{read_expression};
 
+use crate::alone::alone;
 use crate::grammar::read;
 use crate::part::Part;
 use py_tokens::Tokens;
@@ -30,11 +31,7 @@ fn whole(alloc: Global, tokens: &Tokens) -> Result<Option<Part>, AllocError>
     let Some((part, rest)) = read(alloc, words, DEPTH_LIMIT, Level::E1)? else {
         return Ok(None);
     };
-    if rest.words.is_empty() {
-        Ok(Some(part))
-    } else {
-        Ok(None)
-    }
+    Ok(alone(part, rest))
 }
 
 /// The expression of at most 64 levels that all these tokens are, and None where they are none (Python language reference, section 6).
