@@ -1,5 +1,5 @@
 -- What is listed in expressions, seen as the reader's lists of it.
-use Rattle.std.specs.Prelude.{List, [], ◌∷◌, map, Option, Some, None}
+use Rattle.std.specs.Prelude.{Bool, true, false, List, [], ◌∷◌, map, Option, Some, None}
 use Rattle.py_tree.specs.Names.{Name}
 use Rattle.py_tree.specs.ExprView.{view, view_comparison}
 use Rattle.py_tree.specs.Expressions.{Comparison, Tree, chain}
@@ -28,6 +28,12 @@ seen_argument a = argument_form (code.out-Argument a)
 
 abbrev pub seen_arguments : List code.Argument → List Argument
 seen_arguments args = map seen_argument args
+
+-- whether one has a name, of arguments with one more behind them; none where those without a name would stand behind it
+abbrev pub named_behind : Bool → Argument → Option Bool
+named_behind given (named x t) = Some true
+named_behind false (plain t) = Some false
+named_behind true (plain t) = None
 
 abbrev pub seen_pair : Pair → Tree × Tree
 seen_pair p = (view (out-Pair p).key, view (out-Pair p).item)

@@ -4,7 +4,7 @@ ghost use Rattle.py_tree.specs.ExprView.{view, view_comparison};
 ghost use Rattle.py_tree.specs.Expressions.{trees_of};
 ghost use Rattle.syntax_form.specs.Depth.{list_depth, argument_depth, pair_depth, link_depth};
 ghost use Rattle.syntax_reading.specs.Parts.{named_last, arguments_of, pairs_of, links_of};
-ghost use Rattle.expr_parser.specs.ListView.{trees, argument_of, seen_argument, seen_arguments, seen_pair, seen_pairs, seen_link, seen_links};
+ghost use Rattle.expr_parser.specs.ListView.{trees, argument_of, named_behind, seen_argument, seen_arguments, seen_pair, seen_pairs, seen_link, seen_links};
 
 use crate::part::Part;
 use py_tree::{Argument, Comparison, Expr, Link, Pair, Spelling};
@@ -98,16 +98,28 @@ impl Arguments {
     {
         let mut named = false;
         for argument in &self.items {
-            match argument {
-                Argument::Positional(_) => {
-                    if named {
-                        return false;
-                    }
-                }
-                Argument::Keyword(_, _) => named = true,
-            }
+            let Some(next) = named_behind(named, argument) else {
+                return false;
+            };
+            named = next;
         }
         true
+    }
+}
+
+// Whether there is one with a name so far, of arguments with one more; None where that stands behind one with a name and has none.
+fn named_behind(named: bool, argument: &Argument) -> Option<bool>
+    ensures { result ≡ named_behind named (seen_argument argument.now) }
+{
+    match argument {
+        Argument::Keyword(_, _) => Some(true),
+        Argument::Positional(_) => {
+            if named {
+                None
+            } else {
+                Some(false)
+            }
+        }
     }
 }
 
