@@ -79,6 +79,12 @@ module _ (inner : Level → Reader Tree) (room : ℕ) where
   turns_none l n t ts us op e d r =
       rw e (guarded_by (depth t) room (inner (deeper l) us >>= λ v. turns inner room l n (binary op t v)) d ∙ ap (λ x. x >>= λ v. turns inner room l n (binary op t v)) r)
 
+  pub tails_none : (n : ℕ) (t : Tree) (ts us : List Word) (k : Tail) → first_in tail_of ts ≡ Some (k, us) → depth t < room →
+      tailed inner room t k us ≡ None → tails inner room (suc n) t ts ≡ None
+  unfolding tails
+  tails_none n t ts us k e d r =
+      rw e (guarded_by (depth t) room (tailed inner room t k us >>= tails inner room n) d ∙ ap (λ x. x >>= tails inner room n) r)
+
   pub tails_on : (n : ℕ) (t u : Tree) (ts us vs : List Word) (k : Tail) → first_in tail_of ts ≡ Some (k, us) → depth t < room →
       tailed inner room t k us ≡ Some (u, vs) → tails inner room (suc n) t ts ≡ tails inner room n u vs
   unfolding tails
