@@ -1,6 +1,5 @@
 -- Depths of lists with one item more.
-use Rattle.std.proofs.Common.{◌≡◌, ℕ, ◌+◌, ◌<◌, ◌≤◌, max, List, [], ◌∷◌, ◌++◌, map, Option, None, Some, refl, sym, ap, ◌∙◌, arith}
-use Rattle.py_tree.specs.ExprView.{view, view_comparison}
+use Rattle.std.proofs.Common.{◌≡◌, ℕ, max, List, [], ◌∷◌, ◌++◌, map, Option, None, Some, refl, ap, ◌∙◌, arith}
 use Rattle.py_tree.specs.Expressions.{Comparison, Tree, trees_of, no_piece}
 use Rattle.py_tree.specs.FieldFormats.{Convert, Spec}
 use Rattle.syntax_form.specs.Depth.{depth, list_depth, argument_depth, pair_depth, link_depth, piece_depth}

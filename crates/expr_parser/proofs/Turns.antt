@@ -1,10 +1,10 @@
 -- One turn of each loop, whose count of turns goes down in the reading and up in the code.
-use Rattle.std.proofs.Common.{◌≡◌, ℕ, zero, suc, ◌+◌, ◌-◌, ◌<◌, ◌≤◌, Bool, true, false, List, [], ◌∷◌, ◌++◌, map, Some, None, refl, sym, ap, ◌∙◌, nat_lt, arith}
+use Rattle.std.proofs.Common.{◌≡◌, ℕ, zero, suc, ◌+◌, ◌-◌, ◌<◌, ◌≤◌, Bool, false, List, [], ◌∷◌, ◌++◌, map, Some, None, refl, sym, ap, ◌∙◌, arith}
 use Rattle.py_tree.specs.Expressions.{Tree, Operator, binary}
 use Rattle.syntax_form.specs.Depth.{depth}
 use Rattle.syntax_reading.proofs.Following.{guarded_by}
 use Rattle.syntax_reading.specs.Items.{items, each}
-use Rattle.syntax_reading.specs.Readers.{Read, Reader, ◌>>=◌, guarded, first_in, is_word, is_some, by}
+use Rattle.syntax_reading.specs.Readers.{Read, Reader, ◌>>=◌, first_in, is_word, is_some, by}
 use Rattle.syntax_reading.specs.Reading.{at_level, read, tailed, tails, turns}
 use Rattle.syntax_reading.specs.Tables.{Level, deeper, operator_at, Tail, tail_of}
 use Rattle.syntax_reading.specs.Words.{Fixed, Word, comma}

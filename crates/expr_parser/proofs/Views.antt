@@ -1,11 +1,11 @@
 -- Lists of a tree, seen by their items.
-use Rattle.std.proofs.Common.{◌≡◌, ℕ, Bool, List, [], ◌∷◌, map, refl, sym, ap, ◌∙◌}
+use Rattle.std.proofs.Common.{◌≡◌, ℕ, Bool, List, [], ◌∷◌, refl, sym, ap, ◌∙◌}
 use denote.Hole.Carrier.{roll}
 use Rattle.py_tree.specs.Names.{Name}
 use Rattle.py_tree.specs.ExprView.{view, view_comparison, view_argument, view_arguments, view_link, view_links, view_pair, view_pairs, view_piece, view_pieces, argument_step, expr_step, piece_step, link_step, pair_step}
 use Rattle.py_tree.specs.Expressions.{Tree, Links, Arguments, positional, keyword, Pairs, Pieces, link, pair}
 use Rattle.py_tree.specs.declared.expr.Argument.{Argument, out-Argument, roll-Argument, roll-out-Argument, fold-roll-Argument}
-use Rattle.py_tree.specs.declared.expr.Argument.TheOpen.{Argument-F, Expr-F, Link-F, Pair-F, TextPiece-F}
+use Rattle.py_tree.specs.declared.expr.Argument.TheOpen.{Argument-F, Expr-F, TextPiece-F}
 use Rattle.py_tree.specs.declared.expr.Argument.TheVariants.{Positional, Keyword}
 use Rattle.py_tree.specs.declared.expr.Comparison.{Comparison}
 use Rattle.py_tree.specs.declared.expr.Expr.TheVariants.{Dict, Call, FText, Chain}
@@ -16,7 +16,7 @@ use Rattle.py_tree.specs.declared.expr.TextPiece.{TextPiece, out-TextPiece, roll
 use Rattle.py_tree.specs.Expressions as form
 use Rattle.syntax_reading.specs.Parts as items
 use Rattle.expr_parser.specs.ListView.{argument_form, seen_argument, seen_arguments, seen_pair, seen_pairs, seen_link, seen_links}
-use Rattle.expr_parser.specs.TextView.{Text, put, put_all, text_form, seen_text, seen_texts}
+use Rattle.expr_parser.specs.TextView.{put, put_all, text_form, seen_text, seen_texts}
 
 pub pairs_seen : (ps : List Pair) → view_pairs ps ≡ items.pairs_of (seen_pairs ps)
 pairs_seen [] = refl
@@ -24,7 +24,7 @@ pairs_seen (p ∷ ps) = one p (view_pairs ps) ∙ ap (pair (seen_pair p).0 (seen
   where
     one : (q : Pair) (rest : Pairs) → view_pair q rest ≡ pair (seen_pair q).0 (seen_pair q).1 rest
     one q rest = ap (λ (r : Pair). view_pair r rest) (sym (roll-out-Pair q))
-      ∙ ap (λ (f : Pairs → Pairs). f rest) (fold-roll-Pair _ Tree _ _ _ argument_step expr_step piece_step link_step pair_step (out-Pair q))
+        ∙ ap (λ (f : Pairs → Pairs). f rest) (fold-roll-Pair _ Tree _ _ _ argument_step expr_step piece_step link_step pair_step (out-Pair q))
 
 pub links_seen : (ls : List Link) → view_links ls ≡ items.links_of (seen_links ls)
 links_seen [] = refl
@@ -32,7 +32,7 @@ links_seen (l ∷ ls) = one l (view_links ls) ∙ ap (link (seen_link l).0 (seen
   where
     one : (q : Link) (rest : Links) → view_link q rest ≡ link (seen_link q).0 (seen_link q).1 rest
     one q rest = ap (λ (r : Link). view_link r rest) (sym (roll-out-Link q))
-      ∙ ap (λ (f : Links → Links). f rest) (fold-roll-Link _ Tree _ _ _ argument_step expr_step piece_step link_step pair_step (out-Link q))
+        ∙ ap (λ (f : Links → Links). f rest) (fold-roll-Link _ Tree _ _ _ argument_step expr_step piece_step link_step pair_step (out-Link q))
 
 abbrev put_argument : items.Argument → Arguments → Arguments
 put_argument (items.plain t) rest = positional t rest

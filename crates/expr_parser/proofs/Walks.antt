@@ -1,8 +1,8 @@
 -- Loops over arguments and over pieces, and what begins an atom.
-use Rattle.std.proofs.Common.{◌≡◌, ℕ, suc, ◌+◌, ◌<◌, Bool, true, false, List, [], ◌∷◌, ◌++◌, length, get_or, drop, map, Option, Some, None, option_map, refl, sym, ap, ◌∙◌, add-one}
+use Rattle.std.proofs.Common.{◌≡◌, ℕ, suc, ◌+◌, ◌<◌, Bool, true, false, List, [], ◌∷◌, ◌++◌, length, get_or, drop, Option, Some, None, option_map, refl, sym, ap, ◌∙◌, add-one}
 use Rattle.std.proofs.Math.Seq.{drop-cons}
 use Rattle.lexical_form.specs.Tokens as token
-use Rattle.py_tree.specs.Expressions.{Tree, Pieces, characters, field}
+use Rattle.py_tree.specs.Expressions.{Tree, Pieces, characters}
 use Rattle.py_tree.specs.FieldFormats.{Convert, Spec}
 use Rattle.syntax_reading.specs.Parts.{Argument, plain, named, named_last, all_named}
 use Rattle.syntax_reading.specs.Readers.{Reader, ◌>>=◌}

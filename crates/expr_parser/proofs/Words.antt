@@ -1,5 +1,5 @@
 -- Words of the code, and readers over them.
-use Rattle.std.proofs.Common.{◌≡◌, ℕ, suc, ◌+◌, Bool, true, false, List, [], ◌∷◌, ◌++◌, length, Some, None, refl, sym, ap, ◌∙◌, arith}
+use Rattle.std.proofs.Common.{◌≡◌, suc, List, [], ◌∷◌, ◌++◌, length, refl, sym, ap, ◌∙◌}
 use Rattle.py_tree.specs.Expressions.{Tree, more, trees_of}
 use Rattle.lexical_form.specs.Tokens.{Token, Tokens, tokens_of}
 use Rattle.syntax_form.specs.SpelledTokens.{token_list}

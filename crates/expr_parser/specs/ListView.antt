@@ -4,7 +4,7 @@ use Rattle.py_tree.specs.Names.{Name}
 use Rattle.py_tree.specs.ExprView.{view, view_comparison}
 use Rattle.py_tree.specs.Expressions.{Comparison, Tree, chain}
 use Rattle.py_tree.specs.declared.expr.Argument as code
-use Rattle.py_tree.specs.declared.expr.Argument.TheOpen.{Argument-F, Link-F, Pair-F}
+use Rattle.py_tree.specs.declared.expr.Argument.TheOpen.{Argument-F}
 use Rattle.py_tree.specs.declared.expr.Expr.{Expr}
 use Rattle.py_tree.specs.declared.expr.Link.{Link, out-Link}
 use Rattle.py_tree.specs.declared.expr.Pair.{Pair, out-Pair}

@@ -43,7 +43,12 @@ impl<F: Fn(Global, Words, u32, Level) -> Result<Option<(Part, Words)>, AllocErro
     }
 
     /// A text with fields, whose expressions are read.
-    fn f_text<'a>(&self, spelling: &Spelling, pieces: &Pieces, words: Words<'a>) -> Reading<'a, Part>
+    fn f_text<'a>(
+        &self,
+        spelling: &Spelling,
+        pieces: &Pieces,
+        words: Words<'a>,
+    ) -> Reading<'a, Part>
         requires nests { Nests self.now.below (F.pre self.now.deeper) (F.post self.now.deeper) }
         requires small { self.now.below + 1 < 2 ^ 32 }
         ensures value { Reads (λ p. view p.expr) result
@@ -84,7 +89,9 @@ impl<F: Fn(Global, Words, u32, Level) -> Result<Option<(Part, Words)>, AllocErro
         ensures shallow { IfOk result (λ o. IfSome o (λ ts. ts.depth ≤ self.now.below)) }
     {
         match piece {
-            Piece::Chars(spelling) => Ok(Some(before.with_characters(copy(self.alloc, spelling)?)?)),
+            Piece::Chars(spelling) => Ok(Some(before.with_characters(copy(
+                self.alloc, spelling,
+            )?)?)),
             Piece::Field {
                 tokens,
                 convert,

@@ -82,7 +82,13 @@ impl<F: Fn(Global, Words, u32, Level) -> Result<Option<(Part, Words)>, AllocErro
         ensures shallow { Within (λ p. p.depth) (self.now.below + 1) result }
     {
         let before = Parts::new(self.alloc).with(first)?;
-        let Some(((parts, comma), rest)) = self.parts(Fixed::RoundClose, turns_for(words), before, words)? else {
+        let Some(((parts, comma), rest)) = self.parts(
+            Fixed::RoundClose,
+            turns_for(words),
+            before,
+            words,
+        )?
+        else {
             return Ok(None);
         };
         Ok(Some((tuple(self.alloc, parts, comma)?, rest)))
@@ -207,7 +213,14 @@ impl<F: Fn(Global, Words, u32, Level) -> Result<Option<(Part, Words)>, AllocErro
         let Some((tests, rest)) = self.tests(turns_for(rest), rest)? else {
             return Ok(None);
         };
-        Ok(Some((Clause { targets, from, tests }, rest)))
+        Ok(Some((
+            Clause {
+                targets,
+                from,
+                tests,
+            },
+            rest,
+        )))
     }
 
     /// Tests, each with `if` before it.

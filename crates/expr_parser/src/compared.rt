@@ -97,7 +97,12 @@ fn is_tail<'a>(alloc: Global, operand: Part, words: Words<'a>) -> Reading<'a, Pa
 }
 
 #[tactic(auto, using(syntax_words::proofs::Beginnings::on_none_by_first))]
-fn none_behind<'a>(alloc: Global, negated: bool, operand: Part, words: Words<'a>) -> Reading<'a, Part>
+fn none_behind<'a>(
+    alloc: Global,
+    negated: bool,
+    operand: Part,
+    words: Words<'a>,
+) -> Reading<'a, Part>
     requires { operand.depth + 1 < 2 ^ 32 }
     ensures value { Reads (λ p. view p.expr) result (none_behind negated (view operand.expr) (words_of words.entry)) }
     ensures shallow { Within (λ p. p.depth) (operand.depth + 1) result }

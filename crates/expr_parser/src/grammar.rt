@@ -15,7 +15,12 @@ use syntax_words::{Level, Words};
 pub type Reading<'a, T> = Result<Option<(T, Words<'a>)>, AllocError>;
 
 /// An expression of at most this depth, at this level or a tighter one.
-pub fn read<'a>(alloc: Global, words: Words<'a>, room: u32, level: Level) -> Result<Option<(Part, Words<'a>)>, AllocError>
+pub fn read<'a>(
+    alloc: Global,
+    words: Words<'a>,
+    room: u32,
+    level: Level,
+) -> Result<Option<(Part, Words<'a>)>, AllocError>
     ensures value { Reads (λ p. view p.expr) result (reading.read room (view_level level) (words_of words.entry)) }
     ensures shallow { Within (λ p. p.depth) room result }
 {

@@ -24,7 +24,13 @@ use syntax_words::{Fixed, Level, Words, after, first_keyword};
 impl<F: Fn(Global, Words, u32, Level) -> Result<Option<(Part, Words)>, AllocError>> Grammar<F> {
     /// Expressions behind those before, and whether a comma stood behind the last one.
     #[tactic(auto, unfolding(crate::specs::Unfolded::items))]
-    pub fn parts<'a>(&self, close: Fixed, turns: usize, before: Parts, words: Words<'a>) -> Reading<'a, (Parts, bool)>
+    pub fn parts<'a>(
+        &self,
+        close: Fixed,
+        turns: usize,
+        before: Parts,
+        words: Words<'a>,
+    ) -> Reading<'a, (Parts, bool)>
         requires nests { Nests self.now.below (F.pre self.now.deeper) (F.post self.now.deeper) }
         requires shallow { before.depth ≤ self.now.below }
         ensures value { Reads (λ p. (trees p.0.items.items, p.1)) result
@@ -55,7 +61,12 @@ impl<F: Fn(Global, Words, u32, Level) -> Result<Option<(Part, Words)>, AllocErro
 
     /// Arguments behind those before, and whether a comma stood behind the last one.
     #[tactic(auto, unfolding(crate::specs::Unfolded::items))]
-    pub fn arguments<'a>(&self, turns: usize, before: Arguments, words: Words<'a>) -> Reading<'a, (Arguments, bool)>
+    pub fn arguments<'a>(
+        &self,
+        turns: usize,
+        before: Arguments,
+        words: Words<'a>,
+    ) -> Reading<'a, (Arguments, bool)>
         requires nests { Nests self.now.below (F.pre self.now.deeper) (F.post self.now.deeper) }
         requires shallow { before.depth ≤ self.now.below }
         ensures value { Reads (λ p. (seen_arguments p.0.items.items, p.1)) result
@@ -86,7 +97,12 @@ impl<F: Fn(Global, Words, u32, Level) -> Result<Option<(Part, Words)>, AllocErro
 
     /// Keys with their items behind those before, and whether a comma stood behind the last one.
     #[tactic(auto, unfolding(crate::specs::Unfolded::items))]
-    pub fn pairs<'a>(&self, turns: usize, before: Pairs, words: Words<'a>) -> Reading<'a, (Pairs, bool)>
+    pub fn pairs<'a>(
+        &self,
+        turns: usize,
+        before: Pairs,
+        words: Words<'a>,
+    ) -> Reading<'a, (Pairs, bool)>
         requires nests { Nests self.now.below (F.pre self.now.deeper) (F.post self.now.deeper) }
         requires shallow { before.depth ≤ self.now.below }
         ensures value { Reads (λ p. (seen_pairs p.0.items.items, p.1)) result
@@ -163,7 +179,12 @@ impl<F: Fn(Global, Words, u32, Level) -> Result<Option<(Part, Words)>, AllocErro
     }
 
     /// Expressions behind a first one, and whether a comma stood behind the last one.
-    pub fn parts_on<'a>(&self, close: Fixed, first: Part, words: Words<'a>) -> Reading<'a, (Parts, bool)>
+    pub fn parts_on<'a>(
+        &self,
+        close: Fixed,
+        first: Part,
+        words: Words<'a>,
+    ) -> Reading<'a, (Parts, bool)>
         requires nests { Nests self.now.below (F.pre self.now.deeper) (F.post self.now.deeper) }
         requires shallow { first.depth ≤ self.now.below }
         ensures value { Reads (λ p. (trees p.0.items.items, p.1)) result

@@ -12,7 +12,7 @@ use crate::grammar::{Grammar, Reading};
 use crate::part::Part;
 use crate::simple::{binary, conditional, power, prefixed};
 use std::alloc::{AllocError, Global};
-use syntax_words::{Fixed, Level, Words, after, first_operator, first_prefix, Prefix};
+use syntax_words::{Fixed, Level, Prefix, Words, after, first_operator, first_prefix};
 
 impl<F: Fn(Global, Words, u32, Level) -> Result<Option<(Part, Words)>, AllocError>> Grammar<F> {
     /// An expression of any level: perhaps with `if` and `else` behind it.

@@ -77,7 +77,12 @@ fn call_expr(callee: Boxed<Expr>, arguments: Vec<Argument>, comma: bool) -> Expr
 }
 
 /// `CALLEE(ARGUMENTS)`
-pub fn call(alloc: Global, callee: Part, arguments: Arguments, comma: bool) -> Result<Part, AllocError>
+pub fn call(
+    alloc: Global,
+    callee: Part,
+    arguments: Arguments,
+    comma: bool,
+) -> Result<Part, AllocError>
     requires { max callee.depth arguments.depth + 1 < 2 ^ 32 }
     ensures tree { IfOk result (λ p. view p.expr ≡ form.call (view callee.expr) (arguments_of (seen_arguments arguments.items.items)) comma) }
     ensures depth { IfOk result (λ p. p.depth ≡ max callee.depth arguments.depth + 1) }
@@ -115,7 +120,12 @@ pub fn dict_of(alloc: Global, entry: Entry, clause: Clause) -> Result<Part, Allo
         (trees_of (trees clause.tests.items.items))) }
     ensures depth { IfOk result (λ p. p.depth ≡ max entry.key.depth (max entry.item.depth (max clause.from.depth clause.tests.depth)) + 1) }
 {
-    let depth = entry.key.depth.max(entry.item.depth.max(clause.from.depth.max(clause.tests.depth))) + 1;
+    let depth = entry.key.depth.max(
+        entry
+            .item
+            .depth
+            .max(clause.from.depth.max(clause.tests.depth)),
+    ) + 1;
     let expr = Expr::DictOf {
         key: entry.key.expr,
         item: entry.item.expr,

@@ -113,13 +113,7 @@ fn named_behind(named: bool, argument: &Argument) -> Option<bool>
 {
     match argument {
         Argument::Keyword(_, _) => Some(true),
-        Argument::Positional(_) => {
-            if named {
-                None
-            } else {
-                Some(false)
-            }
-        }
+        Argument::Positional(_) => { if named { None } else { Some(false) } }
     }
 }
 

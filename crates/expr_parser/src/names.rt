@@ -16,7 +16,12 @@ use syntax_words::{Fixed, Words, after, first_name};
 
 /// Names up to the word that closes them, and whether a comma stood behind the last one.
 #[tactic(auto, unfolding(crate::specs::Unfolded::items))]
-pub fn names<'a>(alloc: Global, close: Fixed, turns: usize, words: Words<'a>) -> Reading<'a, (Vec<Spelling>, bool)>
+pub fn names<'a>(
+    alloc: Global,
+    close: Fixed,
+    turns: usize,
+    words: Words<'a>,
+) -> Reading<'a, (Vec<Spelling>, bool)>
     ensures { Reads (λ p. (p.0.items, p.1)) result (items reading.first_name (by (view_fixed close)) turns [] (words_of words.entry)) }
 {
     let mut found = Vec::new(alloc);

@@ -80,7 +80,12 @@ fn binary_expr(operator: Operator, left: Boxed<Expr>, right: Boxed<Expr>) -> Exp
 }
 
 /// `LEFT OP RIGHT`
-pub fn binary(alloc: Global, operator: Operator, left: Part, right: Part) -> Result<Part, AllocError>
+pub fn binary(
+    alloc: Global,
+    operator: Operator,
+    left: Part,
+    right: Part,
+) -> Result<Part, AllocError>
     requires { max left.depth right.depth + 1 < 2 ^ 32 }
     ensures tree { IfOk result (λ p. view p.expr ≡ form.binary (view_operator operator) (view left.expr) (view right.expr)) }
     ensures depth { IfOk result (λ p. p.depth ≡ max left.depth right.depth + 1) }

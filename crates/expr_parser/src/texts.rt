@@ -59,7 +59,12 @@ impl Texts {
     }
 
     /// These, and a field behind them.
-    pub fn with_field(self, value: Part, convert: Convert, spec: Option<Spec>) -> Result<Texts, AllocError>
+    pub fn with_field(
+        self,
+        value: Part,
+        convert: Convert,
+        spec: Option<Spec>,
+    ) -> Result<Texts, AllocError>
         ensures items { IfOk result (λ ts. seen_texts ts.items.items
             ≡ seen_texts self.items.items ++ filled (view value.expr) (view_convert convert) (option_map view_spec spec) ∷ []) }
         ensures depth { IfOk result (λ ts. ts.depth ≡ max self.depth value.depth) }

@@ -1,4 +1,4 @@
-use Rattle.std.proofs.Common.{◌≡◌, ℕ, ◌+◌, ◌-◌, ◌<◌, ◌≤◌, ap, ◌∙◌, arith}
+use Rattle.std.proofs.Common.{◌≡◌, ap, ◌∙◌, arith}
 use Rattle.syntax_reading.specs.Reading.{read}
 use Rattle.syntax_words.specs.TableView.{view_level}
 use Rattle.syntax_words.specs.WordView.{words_of}

@@ -1,4 +1,4 @@
-use Rattle.std.proofs.Common.{◌≡◌, ap, ◌∙◌}
+use Rattle.std.proofs.Common.{ap, ◌∙◌}
 use Rattle.py_tree.specs.ExprView.{view}
 use Rattle.py_tree.specs.declared.expr.Expr.TheVariants.{Chain}
 use Rattle.expr_parser.proofs.Views.{is_chain}

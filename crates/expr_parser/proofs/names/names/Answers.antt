@@ -1,4 +1,4 @@
-use Rattle.std.proofs.Common.{◌≡◌, ℕ, ◌+◌, ◌-◌, ◌<◌, Bool, false, List, [], ◌∷◌, ◌++◌, Some, None, sym, ap, ◌∙◌}
+use Rattle.std.proofs.Common.{◌≡◌, ◌+◌, ◌-◌, false, [], ◌∷◌, ◌++◌, Some, sym, ap, ◌∙◌}
 use Rattle.syntax_reading.specs.Items.{items}
 use Rattle.syntax_reading.specs.Parts.{first_name}
 use Rattle.syntax_reading.specs.Readers.{by}

@@ -1,5 +1,5 @@
-use Rattle.std.proofs.Common.{◌≡◌, ℕ, ◌+◌, Some, sym, ap, ◌∙◌}
-use Rattle.syntax_reading.specs.Reading.{atom, read}
+use Rattle.std.proofs.Common.{◌+◌, Some, sym, ap, ◌∙◌}
+use Rattle.syntax_reading.specs.Reading.{read}
 use Rattle.syntax_words.proofs.Beginnings.{operand}
 use Rattle.syntax_words.specs.AtomView.{view_atom}
 use Rattle.syntax_words.specs.WordView.{words_of}

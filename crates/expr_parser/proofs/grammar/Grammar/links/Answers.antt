@@ -1,4 +1,4 @@
-use Rattle.std.proofs.Common.{◌≡◌, ℕ, ◌+◌, ◌-◌, ◌<◌, ◌≤◌, List, [], ◌∷◌, ◌++◌, Some, None, sym, ap, ◌∙◌, arith}
+use Rattle.std.proofs.Common.{◌≡◌, ◌+◌, ◌-◌, ◌≤◌, Some, None, sym, ap, ◌∙◌, arith}
 use Rattle.py_tree.specs.ExprView.{view, view_comparison}
 use Rattle.syntax_reading.specs.Items.{each}
 use Rattle.syntax_reading.specs.Parts.{first_comparison}
@@ -43,6 +43,6 @@ loop-turn-preserved g c =
     let h : c.in-Some-2.operand.depth ≤ c.args.self.now.below = rw c.in-Some-2.is at c.in_ok-operand.ensures.shallow in
     record {
       value = each_on first_comparison inner n at c.loop-turn-test.true found ts c.loop-turn.invariant.value t us vs (view_comparison c.in-Some.comparison) (sym c.in-Some.ensures) r
-      ∙ ap (λ xs. each first_comparison inner (n - (at + 1)) xs vs) (sym c.in_ok-found.ensures.items);
+          ∙ ap (λ xs. each first_comparison inner (n - (at + 1)) xs vs) (sym c.in_ok-found.ensures.items);
       shallow = omega (arith, c.in_ok-found.ensures.depth, c.loop-turn.invariant.shallow, h);
     }

@@ -1,4 +1,4 @@
-use Rattle.std.proofs.Common.{◌≡◌, ℕ, ◌+◌, ◌-◌, ◌<◌, ◌≤◌, Bool, false, List, [], ◌∷◌, ◌++◌, Some, None, sym, ap, ◌∙◌, arith}
+use Rattle.std.proofs.Common.{◌≡◌, ◌+◌, ◌-◌, ◌≤◌, false, Some, None, sym, ap, ◌∙◌, arith}
 use Rattle.py_tree.specs.ExprView.{view}
 use Rattle.syntax_reading.specs.Items.{items}
 use Rattle.syntax_reading.specs.Readers.{by}
@@ -76,6 +76,6 @@ loop-turn-preserved g c =
     let h : c.in-Some-2.item.depth ≤ c.args.self.now.below = rw c.in-Some-2.is at c.in_ok-item.ensures.shallow in
     record {
       value = items_more item f n at c.loop-turn-test.true found ts c.loop-turn.invariant.value i us vs (sym c.in_default.ensures) r (sym c.in-Some-after.ensures)
-      ∙ ap (λ xs. items item (by f) (n - (at + 1)) xs vs) (sym c.in_ok-found.ensures.items);
+          ∙ ap (λ xs. items item (by f) (n - (at + 1)) xs vs) (sym c.in_ok-found.ensures.items);
       shallow = omega (arith, c.in_ok-found.ensures.depth, c.loop-turn.invariant.shallow, h);
     }

@@ -1,4 +1,4 @@
-use Rattle.std.proofs.Common.{◌≡◌, ℕ, ◌+◌, ◌-◌, ◌≤◌, List}
+use Rattle.std.proofs.Common.{◌≡◌, ◌-◌, ◌≤◌}
 use Rattle.syntax_reading.specs.Items.{items}
 use Rattle.syntax_reading.specs.Reading.{read}
 use Rattle.syntax_reading.specs.Tables.{E1}

@@ -1,4 +1,4 @@
-use Rattle.std.proofs.Common.{◌≡◌, ℕ, ◌+◌, ◌≤◌, List, drop, ◌∷◌, Some, option_map, sym, ap, ◌∙◌}
+use Rattle.std.proofs.Common.{◌≡◌, ◌+◌, ◌≤◌, drop, ◌∷◌, Some, option_map, sym, ap, ◌∙◌}
 use Rattle.py_tokens.specs.TokenView.{view_piece, view_piece_list}
 use Rattle.syntax_reading.specs.Reading.{parts, read}
 use Rattle.syntax_reading.specs.Tables.{E1}
@@ -20,7 +20,7 @@ loop-piece-preserved g c =
     let h : c.in-Some.longer.depth ≤ b = rw c.in-Some.is at c.in_ok-longer.ensures.shallow in
     record {
       value = c.loop-piece.invariant.value
-      ∙ (ap (λ ps. option_map (put_all before) (parts (read b) (b + 1) (view_piece_list ps))) left
-      ∙ (piece_on (read b) (b + 1) before (view_piece piece) after ∙ ap (λ o. on_texts o (parts (read b) (b + 1) after)) (sym one)));
+          ∙ (ap (λ ps. option_map (put_all before) (parts (read b) (b + 1) (view_piece_list ps))) left
+          ∙ (piece_on (read b) (b + 1) before (view_piece piece) after ∙ ap (λ o. on_texts o (parts (read b) (b + 1) after)) (sym one)));
       shallow = h;
     }

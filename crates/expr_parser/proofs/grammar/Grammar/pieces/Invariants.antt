@@ -1,4 +1,4 @@
-use Rattle.std.proofs.Common.{◌≡◌, ℕ, ◌+◌, ◌≤◌, List, drop, option_map}
+use Rattle.std.proofs.Common.{◌≡◌, ◌+◌, ◌≤◌, drop, option_map}
 use Rattle.py_tokens.specs.TokenView.{view_piece_list}
 use Rattle.syntax_reading.specs.Reading.{parts, read}
 use Rattle.expr_parser.specs.TextView.{seen_texts, put_all}

@@ -1,4 +1,4 @@
-use Rattle.std.proofs.Common.{◌≡◌, ℕ, ◌+◌, ◌-◌, ◌<◌, ◌≤◌, Some, None, sym, ap, ◌∙◌, arith}
+use Rattle.std.proofs.Common.{◌≡◌, ◌+◌, ◌-◌, ◌<◌, ◌≤◌, Some, None, sym, ◌∙◌, arith}
 use Rattle.py_tree.specs.ExprView.{view}
 use Rattle.syntax_form.specs.Depth.{depth}
 use Rattle.syntax_reading.specs.Readers.{first_in}

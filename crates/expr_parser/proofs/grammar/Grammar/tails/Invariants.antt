@@ -1,4 +1,4 @@
-use Rattle.std.proofs.Common.{◌≡◌, ℕ, ◌+◌, ◌-◌, ◌≤◌, List}
+use Rattle.std.proofs.Common.{◌≡◌, ◌+◌, ◌-◌, ◌≤◌}
 use Rattle.py_tree.specs.ExprView.{view}
 use Rattle.syntax_reading.specs.Reading.{read, tails}
 use Rattle.syntax_words.specs.WordView.{words_of}

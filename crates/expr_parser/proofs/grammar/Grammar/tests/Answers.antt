@@ -1,5 +1,5 @@
-use Rattle.std.proofs.Common.{◌≡◌, ℕ, ◌+◌, ◌-◌, ◌<◌, ◌≤◌, List, [], ◌∷◌, ◌++◌, Some, None, sym, ap, ◌∙◌, arith}
-use Rattle.py_tree.specs.ExprView.{view, view_comparison}
+use Rattle.std.proofs.Common.{◌≡◌, ◌+◌, ◌-◌, ◌≤◌, Some, None, sym, ap, ◌∙◌, arith}
+use Rattle.py_tree.specs.ExprView.{view}
 use Rattle.syntax_reading.specs.Items.{each}
 use Rattle.syntax_reading.specs.Parts.{first_if}
 use Rattle.syntax_reading.specs.Reading.{read}
@@ -44,6 +44,6 @@ loop-turn-preserved g c =
     let h : c.in-Some-2.test.depth ≤ c.args.self.now.below = rw c.in-Some-2.is at c.in_ok-test.ensures.shallow in
     record {
       value = each_on first_if inner n at c.loop-turn-test.true found ts c.loop-turn.invariant.value t us vs tt (sym c.in-Some.ensures) r
-      ∙ ap (λ xs. each first_if inner (n - (at + 1)) xs vs) (sym (tests_behind (trees c.in_ok-found.found.items.items) (trees c.loop-turn.found.items.items) t c.in_ok-found.ensures.items));
+          ∙ ap (λ xs. each first_if inner (n - (at + 1)) xs vs) (sym (tests_behind (trees c.in_ok-found.found.items.items) (trees c.loop-turn.found.items.items) t c.in_ok-found.ensures.items));
       shallow = omega (arith, c.in_ok-found.ensures.depth, c.loop-turn.invariant.shallow, h);
     }

@@ -1,4 +1,4 @@
-use Rattle.std.proofs.Common.{◌≡◌, ℕ, ◌+◌, ◌-◌, ◌<◌, ◌≤◌, Some, None, sym, ap, ◌∙◌, arith}
+use Rattle.std.proofs.Common.{◌≡◌, ◌+◌, ◌-◌, ◌<◌, ◌≤◌, Some, None, sym, ap, ◌∙◌, arith}
 use Rattle.py_tree.specs.ExprView.{view}
 use Rattle.syntax_form.specs.Depth.{depth}
 use Rattle.syntax_reading.specs.Readers.{first_in}
@@ -27,7 +27,7 @@ loop-turn-preserved g c =
     let h : c.in-Some-2.right.depth ≤ b = rw c.in-Some-2.is at c.in_ok-right.ensures.shallow in
     record {
       value = turn ∙ (turns_on (read b) (b + 1) l left t u ts us vs (view_operator c.in-Some.operator) s d r
-      ∙ ap (λ w. turns (read b) (b + 1) l left w vs) (sym c.in_ok-part.ensures.tree));
+          ∙ ap (λ w. turns (read b) (b + 1) l left w vs) (sym c.in_ok-part.ensures.tree));
       shallow = omega (arith, c.in_ok-part.ensures.depth, c.if-part-self.false, h);
     }
 

@@ -1,4 +1,4 @@
-use Rattle.std.proofs.Common.{◌≡◌, List, drop}
+use Rattle.std.proofs.Common.{◌≡◌, drop}
 use Rattle.syntax_reading.specs.Parts.{named_last}
 use Rattle.expr_parser.specs.ListView.{seen_arguments}
 use Rattle.expr_parser.proofs.Walks.{after_named}

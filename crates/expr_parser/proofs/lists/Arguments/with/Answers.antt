@@ -12,6 +12,6 @@ invariant_of-result c =
     let all : seen_arguments c.push.new.self.items ≡ before ++ given ∷ [] = pushed ∙ ap (λ a. before ++ a ∷ []) c.argument.ensures in
     record {
       exact = c.max-depth.ensures
-      ∙ argument_behind (seen_arguments c.push.new.self.items) before given c.args.self.depth c.args.given.value.depth all c.args.self.exact
-      (value_depth_is c.args.given.name (view c.args.given.value.expr) c.args.given.value.depth c.args.given.value.exact);
+          ∙ argument_behind (seen_arguments c.push.new.self.items) before given c.args.self.depth c.args.given.value.depth all c.args.self.exact
+          (value_depth_is c.args.given.name (view c.args.given.value.expr) c.args.given.value.depth c.args.given.value.exact);
     }

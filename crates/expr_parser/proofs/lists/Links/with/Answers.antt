@@ -12,5 +12,5 @@ invariant_of-result c =
     let all : seen_links c.push.new.self.items ≡ before ++ (view_comparison c.args.comparison, operand) ∷ [] = pushed ∙ ap (λ l. before ++ l ∷ []) c.link.ensures in
     record {
       exact = c.max-depth.ensures
-      ∙ link_behind (seen_links c.push.new.self.items) before (view_comparison c.args.comparison, operand) c.args.self.depth c.args.operand.depth all c.args.self.exact c.args.operand.exact;
+          ∙ link_behind (seen_links c.push.new.self.items) before (view_comparison c.args.comparison, operand) c.args.self.depth c.args.operand.depth all c.args.self.exact c.args.operand.exact;
     }

@@ -1,4 +1,4 @@
-use Rattle.std.proofs.Common.{◌≡◌, ◌+◌, ◌++◌, ◌∷◌, [], max, ap, ◌∙◌, arith}
+use Rattle.std.proofs.Common.{◌≡◌, ◌++◌, ◌∷◌, [], ap, ◌∙◌, arith}
 use Rattle.py_tree.specs.ExprView.{view}
 use Rattle.expr_parser.specs.ListView.{seen_pair, seen_pairs}
 use Rattle.expr_parser.proofs.Depths.{pair_behind, seen_behind}
@@ -12,5 +12,5 @@ invariant_of-result c =
     pushed ∙ ap (λ p. before ++ p ∷ []) c.pair.ensures in
     record {
       exact = pair_behind (seen_pairs c.push.new.self.items) before (view c.args.entry.key.expr, view c.args.entry.item.expr) c.max-depth.result c.args.self.depth
-      c.args.entry.key.depth c.args.entry.item.depth all c.args.self.exact c.args.entry.key.exact c.args.entry.item.exact (omega (arith, c.max.ensures, c.max-depth.ensures));
+          c.args.entry.key.depth c.args.entry.item.depth all c.args.self.exact c.args.entry.key.exact c.args.entry.item.exact (omega (arith, c.max.ensures, c.max-depth.ensures));
     }

@@ -15,5 +15,5 @@ invariant_of-result c =
     let all : seen_texts c.push.new.self.items ≡ before ++ filled value convert spec ∷ [] = pushed ∙ ap (λ t. before ++ t ∷ []) c.field.ensures in
     record {
       exact = c.max-depth.ensures
-      ∙ field_behind (seen_texts c.push.new.self.items) before value convert spec c.args.self.depth c.args.value.depth all c.args.self.exact c.args.value.exact;
+          ∙ field_behind (seen_texts c.push.new.self.items) before value convert spec c.args.self.depth c.args.value.depth all c.args.self.exact c.args.value.exact;
     }
