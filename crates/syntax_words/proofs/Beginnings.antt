@@ -46,7 +46,8 @@ module _ (inner : Level → Reader Tree) (room : ℕ) where
   operand (f_text cs ps) ts = with_parts inner room cs ts (parts inner room ps)
   operand (bracket b) ts = bracketed inner room b ts
 
-  by_bracket : (o : Option Bracket) (ts : List Word) → choose None (bracketed inner room) (with_rest ts o) ≡ (with_rest ts (option_map bracket o) >>= operand)
+  by_bracket : (o : Option Bracket) (ts : List Word) →
+      choose None (bracketed inner room) (with_rest ts o) ≡ (with_rest ts (option_map bracket o) >>= operand)
   by_bracket None ts = refl
   by_bracket (Some b) ts = refl
 

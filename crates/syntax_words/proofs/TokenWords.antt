@@ -11,26 +11,42 @@ use Rattle.py_tokens.specs.declared.token.Piece.TheOpen.{TokenKind-F}
 use Rattle.py_tree.specs.Names.{is_among}
 use Rattle.py_tree.specs.declared.token.TokenKind.TheVariants as literal_kind
 use Rattle.syntax_form.specs.Literals.{constants}
-use Rattle.syntax_reading.specs.Words.{Fixed, Word, name, literal, f_text, fixed, other, find, fixed_or, keyword_words, mark_words, is_free, literal_of, word_of}
+use Rattle.syntax_reading.specs.Words.{Fixed, Word, name, literal, f_text, fixed, other}
+use Rattle.syntax_reading.specs.Words.{find, fixed_or, keyword_words, mark_words, is_free, literal_of, word_of}
 use Rattle.syntax_reading.proofs.WordLaws.{name_is_free, literal_may_be}
 use Rattle.syntax_words.specs.SenseView.{is_sound}
 
 -- ---- kinds
 
 name_kind : view_kind code.Name ≡ pure.name
-name_kind = ap view_kind (sym code.rolls-Name) ∙ fold-roll-TokenKind pure.Piece pure.Kind pure.Pieces pure.Token pure.Tokens piece_step kind_step pieces_step token_step tokens_step TokenKind-F.Name
+name_kind =
+    ap view_kind (sym code.rolls-Name) ∙
+    fold-roll-TokenKind pure.Piece pure.Kind pure.Pieces pure.Token pure.Tokens
+    piece_step kind_step pieces_step token_step tokens_step TokenKind-F.Name
 
 number_kind : view_kind code.Number ≡ pure.number
-number_kind = ap view_kind (sym code.rolls-Number) ∙ fold-roll-TokenKind pure.Piece pure.Kind pure.Pieces pure.Token pure.Tokens piece_step kind_step pieces_step token_step tokens_step TokenKind-F.Number
+number_kind =
+    ap view_kind (sym code.rolls-Number) ∙
+    fold-roll-TokenKind pure.Piece pure.Kind pure.Pieces pure.Token pure.Tokens
+    piece_step kind_step pieces_step token_step tokens_step TokenKind-F.Number
 
 text_kind : view_kind code.Text ≡ pure.text
-text_kind = ap view_kind (sym code.rolls-Text) ∙ fold-roll-TokenKind pure.Piece pure.Kind pure.Pieces pure.Token pure.Tokens piece_step kind_step pieces_step token_step tokens_step TokenKind-F.Text
+text_kind =
+    ap view_kind (sym code.rolls-Text) ∙
+    fold-roll-TokenKind pure.Piece pure.Kind pure.Pieces pure.Token pure.Tokens
+    piece_step kind_step pieces_step token_step tokens_step TokenKind-F.Text
 
 f_text_kind : (ps : Pieces) → view_kind (code.FText ps) ≡ pure.f_text (view_pieces ps)
-f_text_kind ps = ap view_kind (sym (code.rolls-FText ps)) ∙ fold-roll-TokenKind pure.Piece pure.Kind pure.Pieces pure.Token pure.Tokens piece_step kind_step pieces_step token_step tokens_step (TokenKind-F.FText ps)
+f_text_kind ps =
+    ap view_kind (sym (code.rolls-FText ps)) ∙
+    fold-roll-TokenKind pure.Piece pure.Kind pure.Pieces pure.Token pure.Tokens
+    piece_step kind_step pieces_step token_step tokens_step (TokenKind-F.FText ps)
 
 mark_kind : view_kind code.Mark ≡ pure.mark
-mark_kind = ap view_kind (sym code.rolls-Mark) ∙ fold-roll-TokenKind pure.Piece pure.Kind pure.Pieces pure.Token pure.Tokens piece_step kind_step pieces_step token_step tokens_step TokenKind-F.Mark
+mark_kind =
+    ap view_kind (sym code.rolls-Mark) ∙
+    fold-roll-TokenKind pure.Piece pure.Kind pure.Pieces pure.Token pure.Tokens
+    piece_step kind_step pieces_step token_step tokens_step TokenKind-F.Mark
 
 -- a token by its parts
 by_parts : (t : Token) → view_token t ≡ pure.token (view_kind t.kind) t.spelling
@@ -47,7 +63,8 @@ spelled_free : (s : List ℕ) → is_free s ≡ true → word_of (pure.token pur
 unfolding word_of
 spelled_free s free = rw free refl
 
-spelled_constant : (s : List ℕ) → is_free s ≡ false → is_among s constants ≡ true → word_of (pure.token pure.name s) ≡ literal (literal_of literal_kind.Name s)
+spelled_constant : (s : List ℕ) → is_free s ≡ false → is_among s constants ≡ true →
+    word_of (pure.token pure.name s) ≡ literal (literal_of literal_kind.Name s)
 unfolding word_of
 spelled_constant s keyword constant = rw keyword (rw constant refl)
 
@@ -74,7 +91,8 @@ pub keyword_word : (t : Token) (s : List ℕ) (o : Option Fixed) → view_kind t
     is_among s constants ≡ false → o ≡ find keyword_words s → fixed_or (other (view_token t)) o ≡ word_of (view_token t)
 keyword_word t s o e same keyword constant found =
     subst (λ v. fixed_or (other v) o ≡ word_of v) (sym (of_kind t pure.name e))
-    (sym (spelled_keyword t.spelling o (ap is_free (sym same) ∙ keyword) (ap (λ x. is_among x constants) (sym same) ∙ constant) (found ∙ ap (find keyword_words) same)))
+    (sym (spelled_keyword t.spelling o (ap is_free (sym same) ∙ keyword) (ap (λ x. is_among x constants) (sym same) ∙ constant)
+    (found ∙ ap (find keyword_words) same)))
 
 pub number_word : (t : Token) → t.kind ≡ code.Number → literal (literal_of literal_kind.Number t.spelling) ≡ word_of (view_token t)
 unfolding word_of

@@ -21,7 +21,6 @@ pub use first::{
 pub use fixed::Fixed;
 pub use level::Level;
 pub use sense::Sense;
-pub use spelled::{fixed_keyword, fixed_mark};
 pub use tables::{
     Bracket, Operator, Prefix, Tail, bracket_of, comparison_of, operator_at, prefix_at, tail_of,
 };

@@ -5,8 +5,8 @@ ghost use Rattle.syntax_words.specs.FixedView.{view_fixed};
 
 use crate::fixed::Fixed;
 
-/// The keyword with this spelling that has a place in a form.
-pub fn fixed_keyword(spelling: &str) -> Option<Fixed>
+// The keyword with this spelling that has a place in a form.
+pub(crate) fn fixed_keyword(spelling: &str) -> Option<Fixed>
     ensures { option_map view_fixed result ≡ find keyword_words spelling.now }
 {
     match spelling {
@@ -32,8 +32,8 @@ pub fn fixed_keyword(spelling: &str) -> Option<Fixed>
     }
 }
 
-/// The mark with this spelling that has a place in a form.
-pub fn fixed_mark(spelling: &str) -> Option<Fixed>
+// The mark with this spelling that has a place in a form.
+pub(crate) fn fixed_mark(spelling: &str) -> Option<Fixed>
     ensures { option_map view_fixed result ≡ find mark_words spelling.now }
 {
     match spelling {
