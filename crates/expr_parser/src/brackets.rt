@@ -29,7 +29,8 @@ impl<F: Fn(Global, Words, u32, Level) -> Result<Option<(Part, Words)>, AllocErro
     pub fn bracketed<'a>(&self, bracket: Bracket, words: Words<'a>) -> Reading<'a, Part>
         requires nests { Nests self.now.below (F.pre self.now.deeper) (F.post self.now.deeper) }
         requires small { self.now.below + 1 < 2 ^ 32 }
-        ensures value { Reads (λ p. view p.expr) result (reading.bracketed (reading.read self.now.below) (self.now.below + 1) (view_bracket bracket) (words_of words.entry)) }
+        ensures value { Reads (λ p. view p.expr) result
+            (reading.bracketed (reading.read self.now.below) (self.now.below + 1) (view_bracket bracket) (words_of words.entry)) }
         ensures shallow { Within (λ p. p.depth) (self.now.below + 1) result }
     {
         match bracket {
@@ -116,7 +117,8 @@ impl<F: Fn(Global, Words, u32, Level) -> Result<Option<(Part, Words)>, AllocErro
         requires nests { Nests self.now.below (F.pre self.now.deeper) (F.post self.now.deeper) }
         requires small { self.now.below + 1 < 2 ^ 32 }
         requires shallow { first.depth ≤ self.now.below }
-        ensures value { Reads (λ p. view p.expr) result (more_in_square (reading.read self.now.below) (self.now.below + 1) (view first.expr) (words_of words.entry)) }
+        ensures value { Reads (λ p. view p.expr) result
+            (more_in_square (reading.read self.now.below) (self.now.below + 1) (view first.expr) (words_of words.entry)) }
         ensures shallow { Within (λ p. p.depth) (self.now.below + 1) result }
     {
         if let Some(rest) = after(Fixed::For, words) {
@@ -133,7 +135,8 @@ impl<F: Fn(Global, Words, u32, Level) -> Result<Option<(Part, Words)>, AllocErro
         requires nests { Nests self.now.below (F.pre self.now.deeper) (F.post self.now.deeper) }
         requires small { self.now.below + 1 < 2 ^ 32 }
         requires shallow { item.depth ≤ self.now.below }
-        ensures value { Reads (λ p. view p.expr) result (list_clause (reading.read self.now.below) (self.now.below + 1) (view item.expr) (words_of words.entry)) }
+        ensures value { Reads (λ p. view p.expr) result
+            (list_clause (reading.read self.now.below) (self.now.below + 1) (view item.expr) (words_of words.entry)) }
         ensures shallow { Within (λ p. p.depth) (self.now.below + 1) result }
     {
         let Some((clause, rest)) = self.clause(words)? else {
@@ -167,7 +170,8 @@ impl<F: Fn(Global, Words, u32, Level) -> Result<Option<(Part, Words)>, AllocErro
         requires nests { Nests self.now.below (F.pre self.now.deeper) (F.post self.now.deeper) }
         requires small { self.now.below + 1 < 2 ^ 32 }
         requires shallow { max first.key.depth first.item.depth ≤ self.now.below }
-        ensures value { Reads (λ p. view p.expr) result (more_in_brace (reading.read self.now.below) (self.now.below + 1) (view first.key.expr, view first.item.expr) (words_of words.entry)) }
+        ensures value { Reads (λ p. view p.expr) result
+            (more_in_brace (reading.read self.now.below) (self.now.below + 1) (view first.key.expr, view first.item.expr) (words_of words.entry)) }
         ensures shallow { Within (λ p. p.depth) (self.now.below + 1) result }
     {
         if let Some(rest) = after(Fixed::For, words) {
@@ -184,7 +188,8 @@ impl<F: Fn(Global, Words, u32, Level) -> Result<Option<(Part, Words)>, AllocErro
         requires nests { Nests self.now.below (F.pre self.now.deeper) (F.post self.now.deeper) }
         requires small { self.now.below + 1 < 2 ^ 32 }
         requires shallow { max entry.key.depth entry.item.depth ≤ self.now.below }
-        ensures value { Reads (λ p. view p.expr) result (dict_clause (reading.read self.now.below) (self.now.below + 1) (view entry.key.expr, view entry.item.expr) (words_of words.entry)) }
+        ensures value { Reads (λ p. view p.expr) result
+            (dict_clause (reading.read self.now.below) (self.now.below + 1) (view entry.key.expr, view entry.item.expr) (words_of words.entry)) }
         ensures shallow { Within (λ p. p.depth) (self.now.below + 1) result }
     {
         let Some((clause, rest)) = self.clause(words)? else {
@@ -227,7 +232,8 @@ impl<F: Fn(Global, Words, u32, Level) -> Result<Option<(Part, Words)>, AllocErro
     #[tactic(auto, unfolding(crate::specs::Unfolded::each))]
     fn tests<'a>(&self, turns: usize, words: Words<'a>) -> Reading<'a, Parts>
         requires nests { Nests self.now.below (F.pre self.now.deeper) (F.post self.now.deeper) }
-        ensures value { Reads (λ ps. tests_on (trees ps.items.items)) result (each parts.first_if (reading.read self.now.below E2) turns [] (words_of words.entry)) }
+        ensures value { Reads (λ ps. tests_on (trees ps.items.items)) result
+            (each parts.first_if (reading.read self.now.below E2) turns [] (words_of words.entry)) }
         ensures shallow { Within (λ ps. ps.depth) self.now.below result }
     {
         let mut found = Parts::new(self.alloc);

@@ -46,7 +46,8 @@ impl<F: Fn(Global, Words, u32, Level) -> Result<Option<(Part, Words)>, AllocErro
         requires nests { Nests self.now.below (F.pre self.now.deeper) (F.post self.now.deeper) }
         requires small { self.now.below + 1 < 2 ^ 32 }
         requires shallow { first.depth ≤ self.now.below + 1 }
-        ensures value { Reads (λ p. view p.expr) result (linked (reading.read self.now.below) (self.now.below + 1) (view first.expr) (words_of words.entry)) }
+        ensures value { Reads (λ p. view p.expr) result
+            (linked (reading.read self.now.below) (self.now.below + 1) (view first.expr) (words_of words.entry)) }
         ensures shallow { Within (λ p. p.depth) (self.now.below + 1) result }
     {
         let Some((links, rest)) = self.links(turns_for(words), words)? else {
@@ -65,7 +66,8 @@ impl<F: Fn(Global, Words, u32, Level) -> Result<Option<(Part, Words)>, AllocErro
     #[tactic(auto, unfolding(crate::specs::Unfolded::each))]
     fn links<'a>(&self, turns: usize, words: Words<'a>) -> Reading<'a, Links>
         requires nests { Nests self.now.below (F.pre self.now.deeper) (F.post self.now.deeper) }
-        ensures value { Reads (λ ls. seen_links ls.items.items) result (each parts.first_comparison (reading.read self.now.below E6) turns [] (words_of words.entry)) }
+        ensures value { Reads (λ ls. seen_links ls.items.items) result
+            (each parts.first_comparison (reading.read self.now.below E6) turns [] (words_of words.entry)) }
         ensures shallow { Within (λ ls. ls.depth) self.now.below result }
     {
         let mut found = Links::new(self.alloc);

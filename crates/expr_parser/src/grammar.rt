@@ -58,7 +58,8 @@ impl<F: Fn(Global, Words, u32, Level) -> Result<Option<(Part, Words)>, AllocErro
     fn at_level<'a>(&self, words: Words<'a>, level: Level) -> Reading<'a, Part>
         requires nests { Nests self.now.below (F.pre self.now.deeper) (F.post self.now.deeper) }
         requires small { self.now.below + 1 < 2 ^ 32 }
-        ensures value { Reads (λ p. view p.expr) result (reading.at_level (reading.read self.now.below) (self.now.below + 1) (view_level level) (words_of words.entry)) }
+        ensures value { Reads (λ p. view p.expr) result
+            (reading.at_level (reading.read self.now.below) (self.now.below + 1) (view_level level) (words_of words.entry)) }
         ensures shallow { Within (λ p. p.depth) (self.now.below + 1) result }
     {
         match level {

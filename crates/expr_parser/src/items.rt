@@ -70,7 +70,8 @@ impl<F: Fn(Global, Words, u32, Level) -> Result<Option<(Part, Words)>, AllocErro
         requires nests { Nests self.now.below (F.pre self.now.deeper) (F.post self.now.deeper) }
         requires shallow { before.depth ≤ self.now.below }
         ensures value { Reads (λ p. (seen_arguments p.0.items.items, p.1)) result
-            (items (reading.argument (reading.read self.now.below) (self.now.below + 1)) (by round_close) turns (seen_arguments before.items.items) (words_of words.entry)) }
+            (items (reading.argument (reading.read self.now.below) (self.now.below + 1)) (by round_close) turns (seen_arguments before.items.items)
+            (words_of words.entry)) }
         ensures shallow { Within (λ p. p.0.depth) self.now.below result }
     {
         let mut found = before;
@@ -106,7 +107,8 @@ impl<F: Fn(Global, Words, u32, Level) -> Result<Option<(Part, Words)>, AllocErro
         requires nests { Nests self.now.below (F.pre self.now.deeper) (F.post self.now.deeper) }
         requires shallow { before.depth ≤ self.now.below }
         ensures value { Reads (λ p. (seen_pairs p.0.items.items, p.1)) result
-            (items (reading.key_item (reading.read self.now.below) (self.now.below + 1)) (by brace_close) turns (seen_pairs before.items.items) (words_of words.entry)) }
+            (items (reading.key_item (reading.read self.now.below) (self.now.below + 1)) (by brace_close) turns (seen_pairs before.items.items)
+            (words_of words.entry)) }
         ensures shallow { Within (λ p. p.0.depth) self.now.below result }
     {
         let mut found = before;
@@ -150,7 +152,8 @@ impl<F: Fn(Global, Words, u32, Level) -> Result<Option<(Part, Words)>, AllocErro
 
     fn positional<'a>(&self, words: Words<'a>) -> Reading<'a, Given>
         requires nests { Nests self.now.below (F.pre self.now.deeper) (F.post self.now.deeper) }
-        ensures value { Reads (λ g. argument_of g.name (view g.value.expr)) result (positional (reading.read self.now.below E1) (words_of words.entry)) }
+        ensures value { Reads (λ g. argument_of g.name (view g.value.expr)) result
+            (positional (reading.read self.now.below E1) (words_of words.entry)) }
         ensures shallow { Within (λ g. g.value.depth) self.now.below result }
     {
         let Some((value, rest)) = self.inner(words, Level::E1)? else {
@@ -206,7 +209,8 @@ impl<F: Fn(Global, Words, u32, Level) -> Result<Option<(Part, Words)>, AllocErro
         requires nests { Nests self.now.below (F.pre self.now.deeper) (F.post self.now.deeper) }
         requires shallow { max first.key.depth first.item.depth ≤ self.now.below }
         ensures value { Reads (λ p. (seen_pairs p.0.items.items, p.1)) result
-            (items_on (reading.key_item (reading.read self.now.below) (self.now.below + 1)) (by brace_close) (view first.key.expr, view first.item.expr) (words_of words.entry)) }
+            (items_on (reading.key_item (reading.read self.now.below) (self.now.below + 1)) (by brace_close)
+            (view first.key.expr, view first.item.expr) (words_of words.entry)) }
         ensures shallow { Within (λ p. p.0.depth) self.now.below result }
     {
         let found = Pairs::new(self.alloc).with(first)?;

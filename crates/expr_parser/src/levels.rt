@@ -143,7 +143,8 @@ impl<F: Fn(Global, Words, u32, Level) -> Result<Option<(Part, Words)>, AllocErro
     fn prefixed<'a>(&self, prefix: Prefix, level: Level, words: Words<'a>) -> Reading<'a, Part>
         requires nests { Nests self.now.below (F.pre self.now.deeper) (F.post self.now.deeper) }
         requires small { self.now.below + 1 < 2 ^ 32 }
-        ensures value { Reads (λ p. view p.expr) result (prefixed_operand (reading.read self.now.below (view_level level)) (view_prefix prefix) (words_of words.entry)) }
+        ensures value { Reads (λ p. view p.expr) result
+            (prefixed_operand (reading.read self.now.below (view_level level)) (view_prefix prefix) (words_of words.entry)) }
         ensures shallow { Within (λ p. p.depth) (self.now.below + 1) result }
     {
         let Some((operand, rest)) = self.inner(words, level)? else {
@@ -181,7 +182,9 @@ impl<F: Fn(Global, Words, u32, Level) -> Result<Option<(Part, Words)>, AllocErro
         requires nests { Nests self.now.below (F.pre self.now.deeper) (F.post self.now.deeper) }
         requires small { self.now.below + 1 < 2 ^ 32 }
         requires shallow { first.depth ≤ self.now.below + 1 }
-        ensures value { Reads (λ p. view p.expr) result (reading.turns (reading.read self.now.below) (self.now.below + 1) (view_level level) (self.now.below + 1) (view first.expr) (words_of words.entry)) }
+        ensures value { Reads (λ p. view p.expr) result
+            (reading.turns (reading.read self.now.below) (self.now.below + 1) (view_level level) (self.now.below + 1) (view first.expr)
+            (words_of words.entry)) }
         ensures shallow { Within (λ p. p.depth) (self.now.below + 1) result }
     {
         let mut part = first;

@@ -97,7 +97,8 @@ pub fn call(
 /// `[ITEM for TARGETS in FROM if TEST ..]`
 pub fn list_of(alloc: Global, item: Part, clause: Clause) -> Result<Part, AllocError>
     requires { max item.depth (max clause.from.depth clause.tests.depth) + 1 < 2 ^ 32 }
-    ensures tree { IfOk result (λ p. view p.expr ≡ form.list_of (view item.expr) clause.targets.items (view clause.from.expr) (trees_of (trees clause.tests.items.items))) }
+    ensures tree { IfOk result
+        (λ p. view p.expr ≡ form.list_of (view item.expr) clause.targets.items (view clause.from.expr) (trees_of (trees clause.tests.items.items))) }
     ensures depth { IfOk result (λ p. p.depth ≡ max item.depth (max clause.from.depth clause.tests.depth) + 1) }
 {
     let depth = item.depth.max(clause.from.depth.max(clause.tests.depth)) + 1;
@@ -116,7 +117,8 @@ pub fn list_of(alloc: Global, item: Part, clause: Clause) -> Result<Part, AllocE
 /// `{KEY: ITEM for TARGETS in FROM if TEST ..}`
 pub fn dict_of(alloc: Global, entry: Entry, clause: Clause) -> Result<Part, AllocError>
     requires { max entry.key.depth (max entry.item.depth (max clause.from.depth clause.tests.depth)) + 1 < 2 ^ 32 }
-    ensures tree { IfOk result (λ p. view p.expr ≡ form.dict_of (view entry.key.expr) (view entry.item.expr) clause.targets.items (view clause.from.expr)
+    ensures tree { IfOk result
+        (λ p. view p.expr ≡ form.dict_of (view entry.key.expr) (view entry.item.expr) clause.targets.items (view clause.from.expr)
         (trees_of (trees clause.tests.items.items))) }
     ensures depth { IfOk result (λ p. p.depth ≡ max entry.key.depth (max entry.item.depth (max clause.from.depth clause.tests.depth)) + 1) }
 {

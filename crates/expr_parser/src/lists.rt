@@ -81,7 +81,8 @@ impl Arguments {
 
     /// These, and one more behind them.
     pub fn with(self, given: Given) -> Result<Arguments, AllocError>
-        ensures items { IfOk result (λ args. seen_arguments args.items.items ≡ seen_arguments self.items.items ++ argument_of given.name (view given.value.expr) ∷ []) }
+        ensures items { IfOk result
+            (λ args. seen_arguments args.items.items ≡ seen_arguments self.items.items ++ argument_of given.name (view given.value.expr) ∷ []) }
         ensures depth { IfOk result (λ args. args.depth ≡ max self.depth given.value.depth) }
     {
         let depth = self.depth.max(given.value.depth);
@@ -152,7 +153,8 @@ impl Pairs {
 
     /// These, and one more behind them.
     pub fn with(self, entry: Entry) -> Result<Pairs, AllocError>
-        ensures items { IfOk result (λ ps. seen_pairs ps.items.items ≡ seen_pairs self.items.items ++ (view entry.key.expr, view entry.item.expr) ∷ []) }
+        ensures items { IfOk result
+            (λ ps. seen_pairs ps.items.items ≡ seen_pairs self.items.items ++ (view entry.key.expr, view entry.item.expr) ∷ []) }
         ensures depth { IfOk result (λ ps. ps.depth ≡ max self.depth (max entry.key.depth entry.item.depth)) }
     {
         let depth = self.depth.max(entry.key.depth.max(entry.item.depth));
@@ -193,7 +195,8 @@ impl Links {
 
     /// These, and one more behind them.
     pub fn with(self, comparison: Comparison, operand: Part) -> Result<Links, AllocError>
-        ensures items { IfOk result (λ ls. seen_links ls.items.items ≡ seen_links self.items.items ++ (view_comparison comparison, view operand.expr) ∷ []) }
+        ensures items { IfOk result
+            (λ ls. seen_links ls.items.items ≡ seen_links self.items.items ++ (view_comparison comparison, view operand.expr) ∷ []) }
         ensures depth { IfOk result (λ ls. ls.depth ≡ max self.depth operand.depth) }
     {
         let depth = self.depth.max(operand.depth);

@@ -40,7 +40,8 @@ impl<F: Fn(Global, Words, u32, Level) -> Result<Option<(Part, Words)>, AllocErro
         requires nests { Nests self.now.below (F.pre self.now.deeper) (F.post self.now.deeper) }
         requires small { self.now.below + 1 < 2 ^ 32 }
         requires shallow { first.depth ≤ self.now.below + 1 }
-        ensures value { Reads (λ p. view p.expr) result (reading.tails (reading.read self.now.below) (self.now.below + 1) (self.now.below + 1) (view first.expr) (words_of words.entry)) }
+        ensures value { Reads (λ p. view p.expr) result
+            (reading.tails (reading.read self.now.below) (self.now.below + 1) (self.now.below + 1) (view first.expr) (words_of words.entry)) }
         ensures shallow { Within (λ p. p.depth) (self.now.below + 1) result }
     {
         let mut part = first;
@@ -67,7 +68,8 @@ impl<F: Fn(Global, Words, u32, Level) -> Result<Option<(Part, Words)>, AllocErro
         requires nests { Nests self.now.below (F.pre self.now.deeper) (F.post self.now.deeper) }
         requires small { self.now.below + 1 < 2 ^ 32 }
         requires shallow { of.depth ≤ self.now.below }
-        ensures value { Reads (λ p. view p.expr) result (reading.tailed (reading.read self.now.below) (self.now.below + 1) (view of.expr) (view_tail tail) (words_of words.entry)) }
+        ensures value { Reads (λ p. view p.expr) result
+            (reading.tailed (reading.read self.now.below) (self.now.below + 1) (view of.expr) (view_tail tail) (words_of words.entry)) }
         ensures shallow { Within (λ p. p.depth) (self.now.below + 1) result }
     {
         match tail {
@@ -87,7 +89,8 @@ impl<F: Fn(Global, Words, u32, Level) -> Result<Option<(Part, Words)>, AllocErro
         requires nests { Nests self.now.below (F.pre self.now.deeper) (F.post self.now.deeper) }
         requires small { self.now.below + 1 < 2 ^ 32 }
         requires shallow { callee.depth ≤ self.now.below }
-        ensures value { Reads (λ p. view p.expr) result (reading.called (reading.read self.now.below) (self.now.below + 1) (view callee.expr) (words_of words.entry)) }
+        ensures value { Reads (λ p. view p.expr) result
+            (reading.called (reading.read self.now.below) (self.now.below + 1) (view callee.expr) (words_of words.entry)) }
         ensures shallow { Within (λ p. p.depth) (self.now.below + 1) result }
     {
         let none = Arguments::new(self.alloc);
@@ -105,7 +108,8 @@ impl<F: Fn(Global, Words, u32, Level) -> Result<Option<(Part, Words)>, AllocErro
         requires nests { Nests self.now.below (F.pre self.now.deeper) (F.post self.now.deeper) }
         requires small { self.now.below + 1 < 2 ^ 32 }
         requires shallow { base.depth ≤ self.now.below }
-        ensures value { Reads (λ p. view p.expr) result (reading.indexed (reading.read self.now.below) (self.now.below + 1) (view base.expr) (words_of words.entry)) }
+        ensures value { Reads (λ p. view p.expr) result
+            (reading.indexed (reading.read self.now.below) (self.now.below + 1) (view base.expr) (words_of words.entry)) }
         ensures shallow { Within (λ p. p.depth) (self.now.below + 1) result }
     {
         if let Some(rest) = after(Fixed::Colon, words) {
