@@ -1,0 +1,5 @@
+pub mod Depths
+pub mod Turns
+pub mod Views
+pub mod Walks
+pub mod Words
