@@ -6,20 +6,7 @@
 # once; Python's is that of `tokenize` alone. Both are medians of RUNS runs, by turns. The program that reads is bench/read_lines.txt, as a
 # crate in a copy of those of the repository that it uses, which are proved and built first where they changed.
 . "$(dirname "$0")/timing.sh"
-
-# Proves and builds the crate in this folder.
-built() {
-  (cd "$1" && rt "$2" > "$work/log" 2>&1 < /dev/null) || { cat "$work/log" >&2; exit 1; }
-}
-
-# Copies a crate of the repository and those that it uses, as they are built, and lists them.
-lay() {
-  local used
-  [ -d "$top/crates/$1" ] && [ ! -d "$work/crates/$1" ] || return 0
-  tar -C "$top/crates" --exclude=incremental -c "$1" | tar -C "$work/crates" -x
-  grep "^$1:" "$top/crates.txt" >> "$work/crates.txt"
-  for used in $(sed -n "s/^$1://p" "$top/crates.txt"); do lay "$used"; done
-}
+. "$(dirname "$0")/crates.sh"
 
 built "$top/crates/py_lines" lib
 mkdir -p "$work/crates/read_lines/src"
