@@ -2,12 +2,11 @@
 use Rattle.std.proofs.Common.{◌≡◌, suc, List, [], ◌∷◌, ◌++◌, length, refl, sym, ap, ◌∙◌}
 use Rattle.py_tree.specs.Expressions.{Tree, more, trees_of}
 use Rattle.lexical_form.specs.Tokens.{Token, Tokens, tokens_of}
-use Rattle.syntax_form.specs.SpelledTokens.{token_list}
 use Rattle.syntax_reading.specs.Parts.{tests_of}
 use Rattle.syntax_reading.specs.Readers.{Read, Reader}
 use Rattle.syntax_reading.specs.Reading.{alone}
 use Rattle.syntax_reading.specs.Words as reading
-use Rattle.syntax_reading.specs.Words.{words}
+use Rattle.syntax_reading.specs.Words.{token_list, words}
 use Rattle.expr_parser.specs.Forms.{field_tree}
 use Rattle.expr_parser.proofs.Depths.{seen_behind}
 use Rattle.expr_parser.specs.ListView.{tests_on}

@@ -1,6 +1,5 @@
 -- Pieces of the reading that methods have of their own.
 use Rattle.std.specs.Prelude.{ℕ, ◌+◌, Bool, true, false, List, [], ◌∷◌, ◌++◌, length, Option, Some, None}
-use Rattle.syntax_form.specs.SpelledTokens.{token_list}
 use Rattle.syntax_reading.specs.Items.{each, items, items_on}
 use Rattle.syntax_reading.specs.Parts.{Argument, plain, first_comparison, on_none, pairs_of}
 use Rattle.syntax_reading.specs.Reading.{alone, chained, clause, key_item}
@@ -10,7 +9,7 @@ use Rattle.py_tree.specs.Expressions.{Prefix, Tree, trees_of}
 use Rattle.syntax_reading.specs.Readers.{Reader, ◌>>=◌, on, by}
 use Rattle.syntax_reading.specs.Tables.{Level, E1, E2, E6}
 use Rattle.syntax_reading.specs.Words as is
-use Rattle.syntax_reading.specs.Words.{words}
+use Rattle.syntax_reading.specs.Words.{token_list, words}
 use Rattle.expr_parser.specs.TextView.{Text, plain as plain_text, filled}
 
 -- behind `VALUE if`
