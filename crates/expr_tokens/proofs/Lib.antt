@@ -1,3 +1,4 @@
 pub mod Commas
 pub mod LaterArguments
+pub mod Pieces
 pub mod Pushing

@@ -1,5 +1,5 @@
 // The parts of each form.
-ghost use Rattle.std.specs.Prelude.{◌≡◌, IfOk, OnOk, max, ◌++◌, ◌∷◌, [], option_map};
+ghost use Rattle.std.specs.Prelude.{◌≡◌, true, IfOk, OnOk, max, ◌++◌, ◌∷◌, [], option_map};
 ghost use Rattle.py_tree.specs.ExprView.{view, views, view_comparison, view_links, view_arguments, view_pairs, bound_of};
 ghost use Rattle.py_tree.specs.Expressions as pure;
 ghost use Rattle.syntax_form.specs.Depth.{depth, list_depth};
@@ -33,6 +33,13 @@ pub fn prefixed<'a>(alloc: Global, operator: Part<'a>, operand: &'a Expr) -> Res
     ensures { IfOk result (λ ps. ps.items ≡ operator.entry ∷ part.Inner operand.entry ∷ []) }
 {
     Ok(vec![in alloc; operator, Part::Inner(operand)]?)
+}
+
+/// `OPERAND is not None`
+pub fn is_not_none<'a>(alloc: Global, operand: &'a Expr) -> Result<Vec<Part<'a>>, AllocError>
+    ensures { IfOk result (λ ps. Spell ps.items (pure.is_none true (view operand.now))) }
+{
+    Ok(vec![in alloc; Part::Inner(operand), Part::Word("is"), Part::Word("not"), Part::Word("None")]?)
 }
 
 /// `FIRST COMPARISON SECOND ..`

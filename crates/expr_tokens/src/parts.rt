@@ -19,7 +19,7 @@ pub fn parts<'a>(alloc: Global, expr: &'a Expr) -> Result<Vec<Part<'a>>, AllocEr
         Expr::Not(operand) => forms::prefixed(alloc, Part::Word("not"), operand.get()),
         Expr::Chain(first, comparison, second, links) => forms::chain(alloc, first.get(), *comparison, second.get(), links.items()),
         Expr::IsNone(operand) => Ok(vec![in alloc; Part::Inner(operand.get()), Part::Word("is"), Part::Word("None")]?),
-        Expr::IsNotNone(operand) => Ok(vec![in alloc; Part::Inner(operand.get()), Part::Word("is"), Part::Word("not"), Part::Word("None")]?),
+        Expr::IsNotNone(operand) => forms::is_not_none(alloc, operand.get()),
         Expr::Add(left, right) => forms::infix(alloc, left.get(), Part::Mark("+"), right.get()),
         Expr::Subtract(left, right) => forms::infix(alloc, left.get(), Part::Mark("-"), right.get()),
         Expr::Multiply(left, right) => forms::infix(alloc, left.get(), Part::Mark("*"), right.get()),
