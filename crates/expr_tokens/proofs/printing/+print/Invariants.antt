@@ -11,10 +11,20 @@ use Rattle.expr_tokens.proofs.Pieces.{put_before}
 use Rattle.expr_tokens.proofs.printing.+print.Given as goal
 
 abbrev pub invariant-push_expr-loop-part : goal.invariant-push_expr-loop-part
-invariant-push_expr-loop-part l = ?
+invariant-push_expr-loop-part l =
+    let rest = drop l.part-index l.part-items in
+    record {
+      tokens : map view_token l.printed.items ++ parts_tokens rest ≡ map view_token l.fn.printed.items ++ tokens (view l.expr);
+      depth : parts_depth rest + 1 ≤ depth (view l.expr);
+    }
 
 abbrev pub invariant-pieces_of-loop-piece : goal.invariant-pieces_of-loop-piece
-invariant-pieces_of-loop-piece l = ?
+invariant-pieces_of-loop-piece l =
+    let rest = view_pieces (drop l.piece-index l.pieces) in
+    record {
+      pieces : put_before (map view_piece l.printed.items) (token_pieces rest) ≡ token_pieces (view_pieces l.pieces);
+      depth : piece_depth rest ≤ piece_depth (view_pieces l.pieces);
+    }
 
 abbrev pub decreases-tokens_of_expr : goal.decreases-tokens_of_expr
 decreases-tokens_of_expr l = 5 * depth (view l.expr.now) + 1
