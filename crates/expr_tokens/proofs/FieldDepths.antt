@@ -27,5 +27,6 @@ unfolding Deeper
 piece_depth-view_piece p = subst (λ q. Deeper (view_piece q)) (roll-out-TextPiece p) (layer_depth (out-TextPiece p))
 
 -- what is left of pieces begins with the next one
-pub next_piece : (ps : List TextPiece) (i : ℕ) (p : TextPiece) → i < length ps → p ≡ get_or ps i p → view_pieces (drop i ps) ≡ view_piece p (view_pieces (drop (i + 1) ps))
+pub next_piece : (ps : List TextPiece) (i : ℕ) (p : TextPiece) → i < length ps → p ≡ get_or ps i p
+    → view_pieces (drop i ps) ≡ view_piece p (view_pieces (drop (i + 1) ps))
 next_piece ps i p lt is = ap view_pieces (drop-cons ps i p lt ∙ (λ j. sym is j ∷ drop (suc i) ps) ∙ ap (λ n. p ∷ drop n ps) (sym (add-one i)))

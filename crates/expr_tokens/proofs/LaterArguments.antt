@@ -1,11 +1,8 @@
 -- An argument behind others has a comma before it.
 use Rattle.std.proofs.Common.{◌≡◌, ◌∙◌, ℕ, suc, ◌+◌, ◌<◌, List, ◌∷◌, sym, subst, refl, ap, add-one, drop, get_or, length}
 use Rattle.std.proofs.Math.Seq.{drop-cons}
-use denote.Hole.Carrier.{roll}
-use Rattle.lexical_form.specs.Tokens.{Token}
-use Rattle.py_tree.specs.Names.{Name}
 use Rattle.py_tree.specs.declared.expr.Argument.{Argument, out-Argument, roll-Argument, roll-out-Argument, fold-roll-Argument}
-use Rattle.py_tree.specs.declared.expr.Argument.TheOpen.{Argument-F, Link-F, Pair-F, TextPiece-F}
+use Rattle.py_tree.specs.declared.expr.Argument.TheOpen.{Argument-F}
 use Rattle.py_tree.specs.declared.expr.Expr.{Expr}
 use Rattle.py_tree.specs.declared.expr.Link.{Link}
 use Rattle.py_tree.specs.declared.expr.Pair.{Pair}
@@ -30,5 +27,6 @@ unfolding HasComma
 later-argument a = subst (λ b. HasComma (view_argument b)) (roll-out-Argument a) (layer_comma (out-Argument a))
 
 -- what is left of arguments begins with the next one
-pub place : (args : List Argument) (i : ℕ) (a : Argument) → i < length args → a ≡ get_or args i a → view_arguments (drop i args) ≡ view_argument a (view_arguments (drop (i + 1) args))
+pub place : (args : List Argument) (i : ℕ) (a : Argument) → i < length args → a ≡ get_or args i a
+    → view_arguments (drop i args) ≡ view_argument a (view_arguments (drop (i + 1) args))
 place args i a lt is = ap view_arguments (drop-cons args i a lt ∙ (λ j. sym is j ∷ drop (suc i) args) ∙ ap (λ n. a ∷ drop n args) (sym (add-one i)))

@@ -14,7 +14,8 @@ put_before-append [] p rest = refl
 put_before-append (q ∷ ps) p rest = ap (piece q) (put_before-append ps p rest)
 
 -- pieces of the code, and one more behind them
-pub put_next : (old new : List code.Piece) (p : code.Piece) (rest : Pieces) → new ≡ old ++ p ∷ [] → put_before (map view_piece new) rest ≡ put_before (map view_piece old) (piece (view_piece p) rest)
+pub put_next : (old new : List code.Piece) (p : code.Piece) (rest : Pieces)
+    → new ≡ old ++ p ∷ [] → put_before (map view_piece new) rest ≡ put_before (map view_piece old) (piece (view_piece p) rest)
 put_next old new p rest is =
     ap (λ ps. put_before (map view_piece ps) rest) is ∙ ap (λ ps. put_before ps rest) (map-append view_piece old (p ∷ []))
     ∙ put_before-append (map view_piece old) (view_piece p) rest

@@ -1,5 +1,5 @@
 -- A part behind others.
-use Rattle.std.proofs.Common.{◌≡◌, ℕ, max, arith, List, [], ◌∷◌, ◌++◌, append-nil, append_assoc, refl, ap, ◌∙◌}
+use Rattle.std.proofs.Common.{◌≡◌, max, arith, List, [], ◌∷◌, ◌++◌, append-nil, ap, ◌∙◌}
 use Rattle.std.proofs.lemmas.Grind.{flat_map-append}
 use Rattle.expr_tokens.specs.Parts.{part_tokens, part_depth, parts_tokens, parts_depth}
 use Rattle.expr_tokens.specs.declared.part.Part.{Part}

@@ -23,7 +23,9 @@ fn below(expr: &Expr) -> u32
     ensures { result ≡ capped (pure.depth (view expr.now) - 1) }
 {
     match expr {
-        Expr::Conditional { value, test, other } => depth(value.get()).max(depth(test.get())).max(depth(other.get())),
+        Expr::Conditional { value, test, other } => depth(value.get())
+            .max(depth(test.get()))
+            .max(depth(other.get())),
         Expr::Or(left, right)
         | Expr::And(left, right)
         | Expr::Add(left, right)
@@ -40,15 +42,40 @@ fn below(expr: &Expr) -> u32
         | Expr::IsNotNone(operand)
         | Expr::Attribute(operand, _)
         | Expr::Paren(operand) => depth(operand.get()),
-        Expr::Chain(first, _, second, links) => depth(first.get()).max(depth(second.get())).max(link_depth(links.items())),
-        Expr::Call { callee, arguments, .. } => depth(callee.get()).max(argument_depth(arguments.items())),
-        Expr::Slice { base, from, until } => depth(base.get()).max(bound_depth(from)).max(bound_depth(until)),
+        Expr::Chain(first, _, second, links) => link_depth(links.items())
+            .max(depth(first.get()))
+            .max(depth(second.get())),
+        Expr::Call {
+            callee,
+            arguments,
+            ..
+        } => argument_depth(arguments.items()).max(depth(callee.get())),
+        Expr::Slice { base, from, until } => depth(base.get())
+            .max(bound_depth(from))
+            .max(bound_depth(until)),
         Expr::Literal(_) | Expr::Name(_) => 0,
         Expr::FText(_, pieces) => piece_depth(pieces.items()),
-        Expr::Tuple { items, .. } | Expr::List { items, .. } | Expr::Bare { items, .. } => list_depth(items.items()),
+        Expr::Tuple { items, .. } | Expr::List { items, .. } | Expr::Bare { items, .. } =>
+            list_depth(items.items()),
         Expr::Dict { pairs, .. } => pair_depth(pairs.items()),
-        Expr::ListOf { item, from, tests, .. } => depth(item.get()).max(depth(from.get())).max(list_depth(tests.items())),
-        Expr::DictOf { key, item, from, tests, .. } => depth(key.get()).max(depth(item.get())).max(depth(from.get())).max(list_depth(tests.items())),
+        Expr::ListOf {
+            item,
+            from,
+            tests,
+            ..
+        } => list_depth(tests.items())
+            .max(depth(item.get()))
+            .max(depth(from.get())),
+        Expr::DictOf {
+            key,
+            item,
+            from,
+            tests,
+            ..
+        } => list_depth(tests.items())
+            .max(depth(key.get()))
+            .max(depth(item.get()))
+            .max(depth(from.get())),
     }
 }
 
@@ -88,7 +115,8 @@ fn argument_depth(arguments: &[Argument]) -> u32
 // Of the value of an argument.
 #[cycle(depth)]
 fn value_depth(argument: &Argument) -> u32
-    ensures { (rest : Arguments) → capped (pure.argument_depth (view_argument argument.now rest)) ≡ max result (capped (pure.argument_depth rest)) }
+    ensures { (rest : Arguments) → capped (pure.argument_depth (view_argument argument.now rest))
+        ≡ max result (capped (pure.argument_depth rest)) }
 {
     match argument {
         Argument::Positional(value) => depth(value.get()),
@@ -102,7 +130,9 @@ fn pair_depth(pairs: &[Pair]) -> u32
 {
     let mut deepest = 0;
     for pair in pairs {
-        deepest = deepest.max(depth(pair.key.get())).max(depth(pair.item.get()));
+        deepest = deepest
+            .max(depth(pair.key.get()))
+            .max(depth(pair.item.get()));
     }
     deepest
 }

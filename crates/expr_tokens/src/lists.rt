@@ -26,11 +26,18 @@ pub fn push<'a>(parts: &mut Vec<Part<'a>>, part: Part<'a>) -> Result<(), AllocEr
 pub fn push_comma<'a>(parts: &mut Vec<Part<'a>>, comma: bool) -> Result<(), AllocError>
     ensures { OnOk result (Add parts.old.items parts.new.items (if_comma comma) 0) }
 {
-    if comma { push(parts, Part::Mark(",")) } else { Ok(()) }
+    if comma {
+        push(parts, Part::Mark(","))
+    } else {
+        Ok(())
+    }
 }
 
 /// A comparison.
-pub fn push_comparison<'a>(parts: &mut Vec<Part<'a>>, comparison: Comparison) -> Result<(), AllocError>
+pub fn push_comparison<'a>(
+    parts: &mut Vec<Part<'a>>,
+    comparison: Comparison,
+) -> Result<(), AllocError>
     ensures { OnOk result (Add parts.old.items parts.new.items (comparison_tokens (view_comparison comparison)) 0) }
 {
     match comparison {
@@ -49,8 +56,12 @@ pub fn push_comparison<'a>(parts: &mut Vec<Part<'a>>, comparison: Comparison) ->
 }
 
 /// An end of a slice, where it isn't left out.
-pub fn push_bound<'a>(parts: &mut Vec<Part<'a>>, bound: &'a Option<Boxed<Expr>>) -> Result<(), AllocError>
-    ensures { OnOk result (Add parts.old.items parts.new.items (bound_tokens (bound_of (option_map view bound.now))) (bound_depth (bound_of (option_map view bound.now)))) }
+pub fn push_bound<'a>(
+    parts: &mut Vec<Part<'a>>,
+    bound: &'a Option<Boxed<Expr>>,
+) -> Result<(), AllocError>
+    ensures { OnOk result (Add parts.old.items parts.new.items
+        (bound_tokens (bound_of (option_map view bound.now))) (bound_depth (bound_of (option_map view bound.now)))) }
 {
     match bound {
         Some(end) => push(parts, Part::Inner(end.get())),
@@ -135,7 +146,10 @@ fn push_pair<'a>(parts: &mut Vec<Part<'a>>, pair: &'a Pair) -> Result<(), AllocE
 }
 
 /// Arguments, with commas between them.
-pub fn push_arguments<'a>(parts: &mut Vec<Part<'a>>, arguments: &'a [Argument]) -> Result<(), AllocError>
+pub fn push_arguments<'a>(
+    parts: &mut Vec<Part<'a>>,
+    arguments: &'a [Argument],
+) -> Result<(), AllocError>
     ensures { OnOk result (Add parts.old.items parts.new.items
         (argument_tokens (view_arguments arguments.now)) (argument_depth (view_arguments arguments.now))) }
 {

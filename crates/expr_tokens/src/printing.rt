@@ -79,11 +79,16 @@ fn pieces_of(alloc: Global, pieces: &[TextPiece]) -> Result<Vec<Piece>, AllocErr
 // A piece of an f-text's token: a field has the tokens of its expression.
 #[cycle(print)]
 fn piece_of(alloc: Global, piece: &TextPiece) -> Result<Piece, AllocError>
-    ensures { IfOk result (λ p. (rest : Pieces) → token_pieces (view_piece piece.now rest) ≡ pure.piece (view_token_piece p) (token_pieces rest)) }
+    ensures { IfOk result (λ p. (rest : Pieces) → token_pieces (view_piece piece.now rest)
+        ≡ pure.piece (view_token_piece p) (token_pieces rest)) }
 {
     match piece {
         TextPiece::Chars(characters) => Ok(Piece::Chars(made::copied(alloc, characters)?)),
-        TextPiece::Field { value, convert, spec } => Ok(field_piece(tokens_of_expr(alloc, value.get())?, *convert, *spec)),
+        TextPiece::Field {
+            value,
+            convert,
+            spec,
+        } => Ok(field_piece(tokens_of_expr(alloc, value.get())?, *convert, *spec)),
     }
 }
 

@@ -15,9 +15,16 @@ loop-argument-preserved c =
     let a = c.argument-item.result in
     let rest = view_arguments (drop (i + 1) later) in
     let old = c.loop-argument.parts.items in
-    let next = with_comma old c.push.new.parts.items c.push_argument-in-loop-argument.new.parts.items (mark ",") (argument_tokens (view_argument a rest)) (later_argument_tokens rest) (argument_depth (view_argument a rest)) (argument_depth rest) c.in_ok-push.ensures (c.in_ok-push_argument-2.ensures rest) in
+    let all = view_argument a rest in
+    let mid = c.push.new.parts.items in
+    let new = c.push_argument-in-loop-argument.new.parts.items in
+    let next =
+    with_comma old mid new (mark ",") (argument_tokens all) (later_argument_tokens rest) (argument_depth all) (argument_depth rest)
+    c.in_ok-push.ensures (c.in_ok-push_argument-2.ensures rest) in
     let at = place later i a c.loop-argument-test.true c.argument-item.is in
     record {
-      tokens = next.tokens ∙ ap (λ ts. parts_tokens old ++ ts) (sym (later-argument a rest) ∙ ap later_argument_tokens (sym at)) ∙ c.loop-argument.invariant.tokens;
+      tokens =
+          next.tokens ∙ ap (λ ts. parts_tokens old ++ ts) (sym (later-argument a rest) ∙ ap later_argument_tokens (sym at))
+          ∙ c.loop-argument.invariant.tokens;
       depth = next.depth ∙ ap (λ args. max (parts_depth old) (argument_depth args)) (sym at) ∙ c.loop-argument.invariant.depth;
     }
