@@ -1,0 +1,5 @@
+pub mod Commas
+pub mod FieldDepths
+pub mod LaterArguments
+pub mod Pieces
+pub mod Pushing

@@ -1,0 +1,3 @@
+pub mod Adding
+pub mod Capped
+pub mod Parts
