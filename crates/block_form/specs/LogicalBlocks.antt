@@ -1,4 +1,4 @@
--- Logical lines that are a block, and the line at which others are refused.
+-- What logical lines are: a block, or refused at a line.
 use Rattle.std.specs.Prelude.{◌≡◌, ℕ, ◌+◌, List, [], ◌∷◌, ◌++◌, ◌⊎◌, ⊤}
 use Rattle.py_tree.specs.Trees.{Head, Stmts}
 use Rattle.lexical_form.specs.LogicalLines.{Line}
@@ -63,3 +63,15 @@ pub record BadIndent (ls : List Line) (n : ℕ) : Type 0 where
   pub placed : List Placed
   pub are : ArePlaced ls placed
   pub refused : FirstMisplaced placed n ⊎ Unfinished placed n
+
+-- this block; no line of the grammar, at this line; or no block of lines, at this line
+pub data Answer : Type 0 where
+  is_block : Stmts → Answer
+  bad_line : (line : ℕ) → Answer
+  bad_indent : (line : ℕ) → Answer
+
+-- Logical lines of which one is no line of the grammar are refused so, wherever it stands; others are a block, or are refused by their indents.
+abbrev pub IsAnswer : List Line → Answer → Type 0
+IsAnswer ls (is_block ss) = SpellsBlock ls ss
+IsAnswer ls (bad_line n) = FirstBadLine ls n
+IsAnswer ls (bad_indent n) = BadIndent ls n

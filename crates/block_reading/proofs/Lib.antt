@@ -1,0 +1,12 @@
+mod Begun
+mod BlockLaws
+mod Choices
+mod Cuts
+mod Depth
+mod Ends
+mod Faulty
+mod Found
+mod Fronts
+mod LogicalLaws
+mod Read
+mod Turns

@@ -1,0 +1,2 @@
+pub mod BlockReading
+pub mod LogicalReading
