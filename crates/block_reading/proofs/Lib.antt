@@ -10,3 +10,4 @@ mod Fronts
 mod LogicalLaws
 mod Read
 mod Turns
+mod WorkedRows

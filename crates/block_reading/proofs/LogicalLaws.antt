@@ -126,6 +126,9 @@ answer_only ls (is_block ss) hold b = block_given ls ss b
 answer_only ls (bad_line n) hold b = bad_line_given ls n hold b
 answer_only ls (bad_indent n) hold b = bad_indent_given ls n b
 
+pub one_answer : (ls : List Line) (a b : Answer) → HoldTokens ls → IsAnswer ls a → IsAnswer ls b → a ≡ b
+one_answer ls a b hold x y = sym (answer_only ls a hold x) ∙ answer_only ls b hold y
+
 -- logical lines are one block at most, whatever their tokens are
 pub block_once : (ls : List Line) (ss rs : Stmts) → SpellsBlock ls ss → SpellsBlock ls rs → ss ≡ rs
 block_once ls ss rs a b =

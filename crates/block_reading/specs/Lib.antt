@@ -1,2 +1,4 @@
 pub mod BlockReading
 pub mod LogicalReading
+pub mod Worked
+pub mod WorkedBlocks
