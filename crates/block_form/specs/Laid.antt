@@ -1,6 +1,6 @@
 -- Lines laid out with the indents of their blocks: what they print, and the tree that they are (Python language reference, section 2.1.8).
 use Rattle.std.specs.Prelude.{ℕ, List, [], ◌∷◌, ◌++◌}
-use Rattle.py_tree.specs.Trees.{Head, Stmt, stmt, Stmts, end, then_comes}
+use Rattle.py_tree.specs.Trees.{Head, stmt, Stmts, end, then_comes}
 
 -- a line of the grammar with its number and its indent, in spaces
 pub record Placed : Type 0 where

@@ -17,7 +17,14 @@ block_found ts l rest e = by_rest rest (lines_found (length ts + 1) None 0 None 
     by_rest : (us : List Placed) → Found None 0 None ts l us → IsBlock ts (stmts_of_laid l)
     by_rest [] f =
         let printed : ts ≡ print 0 l = f.printed ∙ append-nil (print 0 l) in
-        record { lines = l; well = f.well; shallow = ap (λ ls. are_allowed ls (allowed true None 0 None l)) printed ∙ f.shallow; printed = printed; are = refl }
+        record {
+          lines = l;
+          well = f.well;
+          shallow = ap (λ ls. are_allowed ls (allowed true None 0 None l)) printed ∙
+              f.shallow;
+          printed = printed;
+          are = refl;
+        }
     by_rest (u ∷ us) f = let s = f.stops in absurd (omega arith)
 
 -- and lines that are a block are read as it
@@ -25,7 +32,9 @@ pub block_only : (ts : List Placed) (ss : Stmts) → IsBlock ts ss → (l : Laid
 block_only ts ss b =
     let l = b.lines in
     let all : print 0 l ++ [] ≡ ts = append-nil (print 0 l) ∙ sym b.printed in
-    let e = lines_only l None 0 None [] (length ts + 1) b.well tt (let k = ap length all in omega arith) (ap (λ ls. are_allowed ls (allowed true None 0 None l)) (sym b.printed) ∙ b.shallow) in
+    let e =
+    lines_only l None 0 None [] (length ts + 1) b.well tt (let k = ap length all in omega arith)
+    (ap (λ ls. are_allowed ls (allowed true None 0 None l)) (sym b.printed) ∙ b.shallow) in
     (l, ap (lines_at (length ts + 1) None 0 None) (sym all) ∙ e, b.are)
 
 -- lines are one block at most
@@ -37,7 +46,8 @@ block_once ts ss rs a b =
     sym x.2 ∙ (ap stmts_of_laid same ∙ y.2)
 
 -- a line that is allowed is passed
-pub passes : (l : Laid) (bs : List Bool) (xs more : List Placed) (u : Placed) (o : Option (List Placed)) → stop_at bs (xs ++ more) ≡ o → are_allowed xs bs ≡ true → bad (u ∷ more) ≡ result l [] o → ⊥
+pub passes : (l : Laid) (bs : List Bool) (xs more : List Placed) (u : Placed) (o : Option (List Placed)) → stop_at bs (xs ++ more) ≡ o →
+    are_allowed xs bs ≡ true → bad (u ∷ more) ≡ result l [] o → ⊥
 passes l bs xs more u None e h k = cc (k)
 passes l bs xs more u (Some ws) e h k =
     let same : (u ∷ more) ≡ ws = cc (k) in
@@ -60,7 +70,8 @@ none_goes_on ts us u f k =
     passes l flags (f.before ++ u ∷ []) k.more u (stop_at flags (print 0 l ++ [])) (ap (stop_at flags) (sym printed)) k.shallow both
 
 -- where it stops at a line, the lines before that line are the beginning of a block, and with that line they are none
-pub block_stops : (ts us : List Placed) (u : Placed) → read_block ts ≡ bad (u ∷ us) → (before : List Placed) × (ts ≡ before ++ u ∷ us) × IsBegun before × (IsBegun (before ++ u ∷ []) → ⊥)
+pub block_stops : (ts us : List Placed) (u : Placed) → read_block ts ≡ bad (u ∷ us) →
+    (before : List Placed) × (ts ≡ before ++ u ∷ us) × IsBegun before × (IsBegun (before ++ u ∷ []) → ⊥)
 block_stops ts us u e =
     let f = lines_faulty (length ts + 1) None 0 None ts (u ∷ us) (omega arith) e in
     let b = f.begun in
@@ -71,6 +82,7 @@ pub block_ends : (ts : List Placed) → read_block ts ≡ bad [] → IsBegun ts 
 block_ends ts e =
     let f = lines_faulty (length ts + 1) None 0 None ts [] (omega arith) e in
     let b = f.begun in
-    let same : ts ≡ f.before = f.cut ∙ append-nil f.before in
-    (subst IsBegun (sym same) (record { lines = b.lines; more = b.more; well = b.well; shallow = b.shallow; printed = b.printed }),
-     λ ss k. let x = block_only ts ss k in absurd (cc (x.1, e)))
+    let same : ts ≡ f.before = f.cut ∙ append-nil f.before in (
+      subst IsBegun (sym same) (record { lines = b.lines; more = b.more; well = b.well; shallow = b.shallow; printed = b.printed }),
+      λ ss k. let x = block_only ts ss k in absurd (cc (x.1, e)),
+    )

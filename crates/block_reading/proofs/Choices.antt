@@ -12,7 +12,8 @@ pub cond_bad : {A : Type 0} (b : Bool) (x y : Outcome A) (z : Outcome A) → con
 cond_bad true x y z e = inl (refl, e)
 cond_bad false x y z e = inr (refl, e)
 
-pub then_ok : {A B : Type 0} (r : Outcome A) (f : A → List Placed → Outcome B) (b : B) (ts : List Placed) → then_read r f ≡ good b ts → (a : A) × (us : List Placed) × (r ≡ good a us) × (f a us ≡ good b ts)
+pub then_ok : {A B : Type 0} (r : Outcome A) (f : A → List Placed → Outcome B) (b : B) (ts : List Placed) → then_read r f ≡ good b ts →
+    (a : A) × (us : List Placed) × (r ≡ good a us) × (f a us ≡ good b ts)
 then_ok (good a us) f b ts e = (a, us, refl, e)
 then_ok (bad us) f b ts e = absurd (cc)
 

@@ -1,5 +1,5 @@
 -- Two cuts of one list, each before an item: they are one cut, or one lies behind the other's item.
-use Rattle.std.proofs.Common.{◌≡◌, ◌⊎◌, inl, inr, List, [], ◌∷◌, ◌++◌, refl, sym, ap, ◌∙◌, append_assoc}
+use Rattle.std.proofs.Common.{◌≡◌, ◌⊎◌, inl, inr, List, [], ◌∷◌, ◌++◌, refl, sym, ap}
 
 pub record SameCut {A : Type 0} (bs cs : List A) (u v : A) : Type 0 where
   pub fronts : bs ≡ cs
@@ -20,7 +20,7 @@ two_cuts (b ∷ bs) (c ∷ cs) xs ds u v e =
     elim (two_cuts bs cs xs ds u v rest) [
       | inl s ↦ (let f = s.fronts in inl (record { fronts = cc (same, f); items = s.items }))
       | inr t ↦ elim t [
-          | inl q ↦ (let i = q.is in inr (inl (record { further = q.further; is = cc (same, i) })))
-          | inr q ↦ (let i = q.is in inr (inr (record { further = q.further; is = cc (same, i) })))
-        ]
+        | inl q ↦ (let i = q.is in inr (inl (record { further = q.further; is = cc (same, i) })))
+        | inr q ↦ (let i = q.is in inr (inr (record { further = q.further; is = cc (same, i) })))
+      ]
     ]

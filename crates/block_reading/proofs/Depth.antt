@@ -1,5 +1,5 @@
 -- Which lines stand too deep, of lines that are parted in two, and the first that does.
-use Rattle.std.proofs.Common.{◌≡◌, ℕ, ◌+◌, ◌≤◌, Bool, true, false, ◌&&◌, List, [], ◌∷◌, ◌++◌, length, Option, Some, None, refl, ap, length-append, arith}
+use Rattle.std.proofs.Common.{◌≡◌, ℕ, ◌≤◌, Bool, true, false, ◌&&◌, List, [], ◌∷◌, ◌++◌, length, Option, Some, None, refl, ap, length-append, arith}
 use Rattle.py_tree.specs.Trees.{Head}
 use Rattle.block_form.specs.Laid.{Placed, Laid, finish, laid, Inner, no_block, block, print, print_inner}
 use Rattle.block_form.specs.CellDepth.{Room, has_room, room_inside, allowed, allowed_inner, are_allowed}
@@ -18,7 +18,8 @@ mutual
   inner_length no_block room n p h = refl
   inner_length (block m b) room n p h = allowed_length b (has_room room) (room_inside room n p h) m None
 
-pub allowed_both : (xs ys : List Placed) (bs cs : List Bool) → length bs ≡ length xs → are_allowed (xs ++ ys) (bs ++ cs) ≡ (are_allowed xs bs && are_allowed ys cs)
+pub allowed_both : (xs ys : List Placed) (bs cs : List Bool) → length bs ≡ length xs →
+    are_allowed (xs ++ ys) (bs ++ cs) ≡ (are_allowed xs bs && are_allowed ys cs)
 allowed_both [] ys [] cs e = refl
 allowed_both [] ys (b ∷ bs) cs e = absurd (omega arith)
 allowed_both (x ∷ xs) ys [] cs e = absurd (omega arith)
@@ -36,7 +37,8 @@ abbrev pub or_later : Option (List Placed) → Option (List Placed) → Option (
 or_later None o = o
 or_later (Some us) o = Some us
 
-pub stop_both : (bs cs : List Bool) (xs ys : List Placed) → length bs ≡ length xs → stop_at (bs ++ cs) (xs ++ ys) ≡ or_later (stop_at bs (xs ++ ys)) (stop_at cs ys)
+pub stop_both : (bs cs : List Bool) (xs ys : List Placed) → length bs ≡ length xs →
+    stop_at (bs ++ cs) (xs ++ ys) ≡ or_later (stop_at bs (xs ++ ys)) (stop_at cs ys)
 stop_both [] cs [] ys e = refl
 stop_both [] cs (x ∷ xs) ys e = absurd (omega arith)
 stop_both (b ∷ bs) cs [] ys e = absurd (omega arith)

@@ -1,5 +1,5 @@
 -- Where lines at an indent end.
-use Rattle.std.proofs.Common.{◌≡◌, ℕ, ◌+◌, ◌<◌, List, [], ◌∷◌, ◌++◌, length, ap, arith}
+use Rattle.std.proofs.Common.{◌≡◌, ℕ, ◌<◌, List, [], ◌∷◌, ◌++◌, length, ap, arith}
 use Rattle.py_tree.specs.Trees.{Head}
 use Rattle.block_form.specs.Laid.{Placed, Laid, finish, laid, Inner, no_block, block, print}
 use Rattle.block_form.specs.Nested.{WellInner}

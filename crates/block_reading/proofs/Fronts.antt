@@ -1,7 +1,7 @@
 -- A front of lines that begin a block begins one; so the first line with which they begin none is one line at most.
-use Rattle.std.proofs.Common.{◌≡◌, ◌⊎◌, inl, inr, ℕ, Bool, true, false, ◌&&◌, List, [], ◌∷◌, ◌++◌, None, refl, sym, ap, ◌∙◌, subst, append_assoc, append-nil}
+use Rattle.std.proofs.Common.{◌≡◌, inl, inr, ℕ, Bool, true, false, List, [], ◌∷◌, ◌++◌, None, refl, sym, ap, ◌∙◌, subst, append_assoc, append-nil}
 use Rattle.py_tree.specs.Trees.{Stmts}
-use Rattle.block_form.specs.Laid.{Placed, print}
+use Rattle.block_form.specs.Laid.{Placed}
 use Rattle.block_form.specs.CellDepth.{allowed, are_allowed}
 use Rattle.block_form.specs.Blocks.{IsBlock, IsBegun}
 use Rattle.block_form.specs.LogicalBlocks.{FirstMisplaced}
@@ -19,7 +19,8 @@ front_begins ls ms b = record {
   more = ms ++ b.more;
   well = b.well;
   shallow = allowed_front ls ms (allowed true None 0 None b.lines) b.shallow;
-  printed = b.printed ∙ append_assoc ls ms b.more }
+  printed = b.printed ∙ append_assoc ls ms b.more;
+}
 
 pub block_begins : (ls : List Placed) (ss : Stmts) → IsBlock ls ss → IsBegun ls
 block_begins ls ss b = record {
@@ -27,7 +28,8 @@ block_begins ls ss b = record {
   more = [];
   well = b.well;
   shallow = b.shallow;
-  printed = sym b.printed ∙ sym (append-nil ls) }
+  printed = sym b.printed ∙ sym (append-nil ls);
+}
 
 -- a line with which the lines before it begin no block is in no lines that begin one
 pub none_begin : (before after : List Placed) (u : Placed) → (IsBegun (before ++ u ∷ []) → ⊥) → IsBegun (before ++ u ∷ after) → ⊥
@@ -40,7 +42,7 @@ pub one_misplaced : (ps : List Placed) (n m : ℕ) → FirstMisplaced ps n → F
 one_misplaced ps n m f g = elim (two_cuts f.before g.before f.after g.after f.misplaced g.misplaced (sym f.cut ∙ g.cut)) [
   | inl s ↦ sym f.number ∙ (ap (λ u. u.number) s.items ∙ g.number)
   | inr t ↦ elim t [
-      | inl q ↦ absurd (behind_begun f.before g.before f.misplaced f.none g.begun q)
-      | inr q ↦ absurd (behind_begun g.before f.before g.misplaced g.none f.begun q)
-    ]
+    | inl q ↦ absurd (behind_begun f.before g.before f.misplaced f.none g.begun q)
+    | inr q ↦ absurd (behind_begun g.before f.before g.misplaced g.none f.begun q)
+  ]
 ]

@@ -1,5 +1,5 @@
 -- Of logical lines the reader gives exactly what they are.
-use Rattle.std.proofs.Common.{◌≡◌, ℕ, ◌+◌, ◌⊎◌, inl, inr, List, [], ◌∷◌, ◌++◌, Option, Some, None, refl, sym, ap, ◌∙◌, subst}
+use Rattle.std.proofs.Common.{◌≡◌, ℕ, ◌⊎◌, inl, inr, List, [], ◌∷◌, ◌++◌, Option, Some, None, refl, sym, ap, ◌∙◌, subst}
 use Rattle.py_tree.specs.Trees.{Head, Stmts}
 use Rattle.lexical_form.specs.LogicalLines.{Line}
 use Rattle.syntax_form.specs.Lines.{IsLine}
@@ -7,8 +7,8 @@ use Rattle.syntax_form.specs.SpelledTokens.{AreTokens, HoldTokens}
 use Rattle.syntax_reading.specs.LineReading.{read_line}
 use Rattle.syntax_reading.proofs.LineLaws.{line_found, line_only}
 use Rattle.block_form.specs.Laid.{Placed, Laid, stmts_of_laid}
-use Rattle.block_form.specs.Blocks.{IsBlock, IsBegun}
-use Rattle.block_form.specs.LogicalBlocks.{IsPlaced, ArePlaced, last_number, SpellsBlock, FirstBadLine, FirstMisplaced, Unfinished, BadIndent, Answer, is_block, bad_line, bad_indent, IsAnswer}
+use Rattle.block_form.specs.Blocks.{IsBegun}
+use Rattle.block_form.specs.LogicalBlocks.{ArePlaced, SpellsBlock, FirstBadLine, FirstMisplaced, Unfinished, BadIndent, Answer, is_block, bad_line, bad_indent, IsAnswer}
 use Rattle.block_reading.specs.BlockReading.{Outcome, good, bad, read_block}
 use Rattle.block_reading.specs.LogicalReading.{Heads, heads, no_line, with_head, heads_of, by_reading, by_heads, block_of}
 use Rattle.block_reading.proofs.BlockLaws.{block_found, block_only, block_stops, block_ends}
@@ -28,13 +28,25 @@ heads_law (l ∷ ls) hold = by_line (read_line l.tokens) refl (heads_of ls) (hea
 
     by_line : (o : Option Head) → read_line l.tokens ≡ o → (hs : Heads) → HeadsLaw ls hs → HeadsLaw (l ∷ ls) (with_head l o hs)
     by_line None e hs h = record {
-      before = []; bad = l; after = ls; cut = refl; number = refl; placed = []; are = tt;
-      none = λ g i. let k = line_only l.tokens g i in absurd (cc (k, e)) }
+      before = [];
+      bad = l;
+      after = ls;
+      cut = refl;
+      number = refl;
+      placed = [];
+      are = tt;
+      none = λ g i. let k = line_only l.tokens g i in absurd (cc (k, e));
+    }
     by_line (Some g) e (no_line n) h = record {
-      before = l ∷ h.before; bad = h.bad; after = h.after; cut = ap (λ x. l ∷ x) h.cut; number = h.number;
+      before = l ∷ h.before;
+      bad = h.bad;
+      after = h.after;
+      cut = ap (λ x. l ∷ x) h.cut;
+      number = h.number;
       placed = record { number = l.line; indent = l.indent; head = g } ∷ h.placed;
       are = (record { number = refl; indent = refl; head = line_found l.tokens g hold.0 e }, h.are);
-      none = h.none }
+      none = h.none;
+    }
     by_line (Some g) e (heads ps) h = (record { number = refl; indent = refl; head = line_found l.tokens g hold.0 e }, h)
 
 placed_same : (p : Placed) (l : Line) → p.number ≡ l.line → p.indent ≡ l.indent →
@@ -73,7 +85,12 @@ by_read ls ps h (bad []) e =
     record { placed = ps; are = h; refused = inr (record { begun = k.0; none = k.1; number = refl }) }
 by_read ls ps h (bad (u ∷ us)) e =
     let k = block_stops ps us u e in
-    record { placed = ps; are = h; refused = inl (record { before = k.0; misplaced = u; after = us; cut = k.1; number = refl; begun = k.2; none = k.3 }) }
+    record {
+      placed = ps;
+      are = h;
+      refused = inl
+          (record { before = k.0; misplaced = u; after = us; cut = k.1; number = refl; begun = k.2; none = k.3 });
+    }
 
 pub answer_found : (ls : List Line) → HoldTokens ls → IsAnswer ls (block_of ls)
 answer_found ls hold = by_all (heads_of ls) (heads_law ls hold)
@@ -106,7 +123,8 @@ bad_line_given ls n hold b =
     ap (λ x. by_heads (heads_of x)) b.cut ∙ (ap by_heads stops ∙ ap bad_line b.number)
 
 -- lines that are refused by their indents are refused at that line alone
-refused_so : (ps : List Placed) (n : ℕ) → FirstMisplaced ps n ⊎ Unfinished ps n → (o : Outcome Laid) → read_block ps ≡ o → by_reading ps o ≡ bad_indent n
+refused_so : (ps : List Placed) (n : ℕ) → FirstMisplaced ps n ⊎ Unfinished ps n → (o : Outcome Laid) → read_block ps ≡ o →
+    by_reading ps o ≡ bad_indent n
 refused_so ps n (inl f) (good l rest) e =
     absurd (none_begin f.before f.after f.misplaced f.none (subst IsBegun f.cut (block_begins ps (stmts_of_laid l) (block_found ps l rest e))))
 refused_so ps n (inl f) (bad []) e = absurd (none_begin f.before f.after f.misplaced f.none (subst IsBegun f.cut (block_ends ps e).0))

@@ -1,15 +1,13 @@
 -- Worked examples are computed: the lines of a text by the readers of `lexical_form`, what they are by the readers of lines and blocks.
-use Rattle.std.proofs.Common.{◌≡◌, ℕ, Bool, true, List, [], ◌∷◌, Option, Some, None, refl, ap, subst}
+use Rattle.std.proofs.Common.{◌≡◌, ℕ, Bool, true, List, [], ◌∷◌, Option, Some, None, ap, subst}
 use Rattle.std.specs.Prelude.{map}
 use Rattle.std.specs.Str.{is_utf8}
-use Rattle.py_tree.specs.Trees.{Stmts}
 use Rattle.lexical_form.specs.Answer as text
 use Rattle.lexical_form.specs.LogicalLines.{Line}
 use Rattle.lexical_form.proofs.Basics.{head_is, tail_is}
 use Rattle.lexical_form.proofs.WorkedRows.{computed, answer_is}
-use Rattle.syntax_form.specs.SpelledTokens.{HoldTokens}
 use Rattle.syntax_form.proofs.LineTokens.{of_tokens}
-use Rattle.block_form.specs.LogicalBlocks.{SpellsBlock, Answer, is_block, bad_line, bad_indent, IsAnswer}
+use Rattle.block_form.specs.LogicalBlocks.{Answer, is_block, bad_line, bad_indent, IsAnswer}
 use Rattle.block_reading.specs.LogicalReading.{block_of}
 use Rattle.block_reading.specs.Worked.{Says, AreBlocks}
 use Rattle.block_reading.proofs.LogicalLaws.{answer_found}

@@ -40,7 +40,11 @@ lines_at (suc f) room n p [] = ended p []
 lines_at (suc f) room n p (u ∷ us) =
     cond (nat_lt u.indent n) (ended p (u ∷ us))
     (cond (u.indent == n && may_follow p u.head)
-      (one_line (λ m vs. lines_at f (room_inside room n p u.head) m None vs) (has_room room) (lines_at f room n) n u us) (bad (u ∷ us)))
+    (one_line (λ m vs. lines_at f (room_inside room n p u.head) m None vs) (has_room room) (lines_at f room n) n u us) (bad (u ∷ us)))
+
+-- the lines of the block under a line, at this indent and behind that line
+abbrev pub lines_under : ℕ → Room → ℕ → Option Head → Head → ℕ → List Placed → Outcome Laid
+lines_under f room n p h m vs = lines_at f (room_inside room n p h) m None vs
 
 -- all of the lines, from the indent 0 on
 abbrev pub read_block : List Placed → Outcome Laid

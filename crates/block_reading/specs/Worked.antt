@@ -1,7 +1,7 @@
 -- The words of worked examples: texts with the blocks that they are. No definition speaks of them.
 use Prim.Native.String.{String}
 use Rattle.std.specs.Prelude.{ℕ, List, [], ◌∷◌, map, codes, ⊤, Option, Some, None}
-use Rattle.py_tree.specs.Trees.{Head, Stmt, stmt, Stmts, end, stmts_of, Tree, pass_line}
+use Rattle.py_tree.specs.Trees.{Head, Stmt, stmt, Stmts, end, stmts_of, pass_line}
 use Rattle.lexical_form.specs.Answer as text
 use Rattle.lexical_form.specs.LogicalLines.{Line}
 use Rattle.block_form.specs.LogicalBlocks.{SpellsBlock, Answer, is_block, bad_line, bad_indent, IsAnswer}

@@ -1,10 +1,10 @@
 -- Worked examples of blocks. Python (3.11) takes those that are blocks; it refuses the others too, but for those of which it is said and for
 -- the limit of twelve, and where it names a line inside the text it is the same one.
 use Rattle.std.specs.Prelude.{ℕ, zero, suc, ◌+◌, false, List, [], ◌∷◌, ◌++◌, codes, Option, Some, None}
-use Rattle.py_tree.specs.Trees.{if_line, elif_line, else_line, while_line, for_line, def_line, return_line, cache_decorator, cell_decorator}
+use Rattle.py_tree.specs.Trees.{if_line, elif_line, else_line, while_line, for_line, def_line, return_line, cache_decorator}
 use Rattle.syntax_reading.specs.Worked.{named}
-use Rattle.block_form.specs.LogicalBlocks.{Answer, is_block, bad_line, bad_indent}
-use Rattle.block_reading.specs.Worked.{row, no_line, misplaced, all_blocks, simple, over, pass}
+use Rattle.block_form.specs.LogicalBlocks.{Answer, bad_indent}
+use Rattle.block_reading.specs.Worked.{row, no_line, misplaced, simple, over, pass}
 
 -- ---- blocks
 abbrev pub block_rows : List (List ℕ × Option Answer)
@@ -15,15 +15,15 @@ block_rows =
     -- each block has an indent of its own
     ∷ row "if a:\n pass\nelse:\n   pass\n" (over 1 (if_line (named "a")) (pass 2 ∷ []) ∷ over 3 else_line (pass 4 ∷ []) ∷ [])
     ∷ row "if a:\n pass\nelif b:\n pass\nelse:\n pass\n"
-      (over 1 (if_line (named "a")) (pass 2 ∷ []) ∷ over 3 (elif_line (named "b")) (pass 4 ∷ []) ∷ over 5 else_line (pass 6 ∷ []) ∷ [])
+    (over 1 (if_line (named "a")) (pass 2 ∷ []) ∷ over 3 (elif_line (named "b")) (pass 4 ∷ []) ∷ over 5 else_line (pass 6 ∷ []) ∷ [])
     -- numbers are those of lines of the text
     ∷ row "while a:\n\n  # c\n  pass\n" (over 1 (while_line (named "a")) (pass 4 ∷ []) ∷ [])
     -- a way out over two blocks
     ∷ row "for a in b:\n if a:\n  pass\npass\n"
-      (over 1 (for_line (codes "a" ∷ []) (named "b")) (over 2 (if_line (named "a")) (pass 3 ∷ []) ∷ []) ∷ pass 4 ∷ [])
+    (over 1 (for_line (codes "a" ∷ []) (named "b")) (over 2 (if_line (named "a")) (pass 3 ∷ []) ∷ []) ∷ pass 4 ∷ [])
     -- a function in a function, and a decorated one
     ∷ row "def f():\n def g():\n  return\n return\n"
-      (over 1 (def_line (codes "f") [] false) (over 2 (def_line (codes "g") [] false) (simple 3 return_line ∷ []) ∷ simple 4 return_line ∷ []) ∷ [])
+    (over 1 (def_line (codes "f") [] false) (over 2 (def_line (codes "g") [] false) (simple 3 return_line ∷ []) ∷ simple 4 return_line ∷ []) ∷ [])
     ∷ row "@mo.cache\ndef f():\n pass\n" (simple 1 cache_decorator ∷ over 2 (def_line (codes "f") [] false) (pass 3 ∷ []) ∷ [])
     ∷ []
 
