@@ -3,11 +3,12 @@ use Rattle.std.proofs.Common.{◌≡◌, ℕ, zero, suc, ◌+◌, ◌-◌, ◌<�
 use Rattle.py_tree.specs.Expressions.{Tree, Operator, binary}
 use Rattle.syntax_form.specs.Depth.{depth}
 use Rattle.syntax_reading.proofs.Following.{guarded_by}
-use Rattle.syntax_reading.specs.Items.{items, each}
-use Rattle.syntax_reading.specs.Readers.{Read, Reader, ◌>>=◌, first_in, is_word, is_some, by}
+use Rattle.syntax_reading.specs.Items.{after_item, items, each}
+use Rattle.syntax_reading.specs.Readers.{Read, Reader, ◌>>=◌, choose, first_in, is_word, is_some, Closing, by, at_end, on_closing}
 use Rattle.syntax_reading.specs.Reading.{at_level, read, tailed, tails, turns}
 use Rattle.syntax_reading.specs.Tables.{Level, deeper, operator_at, Tail, tail_of}
-use Rattle.syntax_reading.specs.Words.{Fixed, Word, comma}
+use Rattle.syntax_reading.specs.Words.{Word, comma}
+use Rattle.expr_parser.specs.ClosingView.{first_closing}
 
 pub one_more : {X : Type 0} {x : X} (f : ℕ → X) (n at : ℕ) → at < n → x ≡ f (n - at) → x ≡ f (suc (n - (at + 1)))
 one_more f n at below e = let turn : n - at ≡ suc (n - (at + 1)) = omega arith in e ∙ ap f turn
@@ -20,33 +21,45 @@ pub comma_is : {A B : Type 0} (f : A → B) (xs : List A) (b : Bool) → b ≡ i
 comma_is f [] b e = sym e
 comma_is f (x ∷ xs) b e = sym e
 
+-- what closes a list is in front, or not
+closing_choice : {A : Type 0} (c : Closing) (other : Read A) (take : Reader A) (ts : List Word) →
+    on_closing c other take ts ≡ choose other (λ u. take) (first_closing c ts)
+closing_choice (by f) other take ts = refl
+closing_choice at_end other take [] = refl
+closing_choice at_end other take (w ∷ ts) = refl
+
 -- a turn of a list with commas: by what begins the words that are left
-module _ {I : Type 0} (item : Reader I) (f : Fixed) {x : Read (List I × Bool)} (n at : ℕ) (below : at < n) (found : List I) (ts : List Word)
-    (is : x ≡ items item (by f) (n - at) found ts) where
-  turn : x ≡ items item (by f) (suc (n - (at + 1))) found ts
-  turn = one_more (λ k. items item (by f) k found ts) n at below is
+module _ {I : Type 0} (item : Reader I) (c : Closing) {x : Read (List I × Bool)} (n at : ℕ) (below : at < n) (found : List I) (ts : List Word)
+    (is : x ≡ items item c (n - at) found ts) where
+  turn : x ≡ items item c (suc (n - (at + 1))) found ts
+  turn = one_more (λ k. items item c k found ts) n at below is
 
-  pub items_closed : (us : List Word) → first_in (is_word f) ts ≡ Some (tt, us) → x ≡ Some ((found, is_some found), us)
-  unfolding items
-  items_closed us e = turn ∙ rw e refl
+  abbrev other : Read (List I × Bool)
+  other = item ts >>= λ i. after_item item c (items item c (n - (at + 1)) (found ++ i ∷ [])) (found ++ i ∷ [])
 
-  pub items_none : first_in (is_word f) ts ≡ None → item ts ≡ None → x ≡ None
+  choice : items item c (suc (n - (at + 1))) found ts ≡ choose other (λ u us. Some ((found, is_some found), us)) (first_closing c ts)
   unfolding items
-  items_none e r = turn ∙ rw e (rw r refl)
+  choice = closing_choice c other (λ us. Some ((found, is_some found), us)) ts
 
-  pub items_bad : (i : I) (us : List Word) → first_in (is_word f) ts ≡ None → item ts ≡ Some (i, us) → first_in (is_word comma) us ≡ None → first_in (is_word f) us ≡ None → x ≡ None
-  unfolding items
-  items_bad i us e r k l = turn ∙ rw e (rw r (rw k (rw l refl)))
+  pub items_closed : (us : List Word) → first_closing c ts ≡ Some (tt, us) → x ≡ Some ((found, is_some found), us)
+  items_closed us e = turn ∙ (choice ∙ rw e refl)
 
-  pub items_last : (i : I) (us vs : List Word) → first_in (is_word f) ts ≡ None → item ts ≡ Some (i, us) → first_in (is_word comma) us ≡ None →
-      first_in (is_word f) us ≡ Some (tt, vs) → x ≡ Some ((found ++ i ∷ [], false), vs)
-  unfolding items
-  items_last i us vs e r k l = turn ∙ rw e (rw r (rw k (rw l refl)))
+  pub items_none : first_closing c ts ≡ None → item ts ≡ None → x ≡ None
+  items_none e r = turn ∙ (choice ∙ rw e (rw r refl))
 
-  pub items_more : (i : I) (us vs : List Word) → first_in (is_word f) ts ≡ None → item ts ≡ Some (i, us) → first_in (is_word comma) us ≡ Some (tt, vs) →
-      x ≡ items item (by f) (n - (at + 1)) (found ++ i ∷ []) vs
-  unfolding items
-  items_more i us vs e r k = turn ∙ rw e (rw r (rw k refl))
+  pub items_bad : (i : I) (us : List Word) → first_closing c ts ≡ None → item ts ≡ Some (i, us) → first_in (is_word comma) us ≡ None →
+      first_closing c us ≡ None → x ≡ None
+  items_bad i us e r k l =
+      turn ∙ (choice ∙ rw e (rw r (rw k (closing_choice c None (λ ws. Some ((found ++ i ∷ [], false), ws)) us ∙ rw l refl))))
+
+  pub items_last : (i : I) (us vs : List Word) → first_closing c ts ≡ None → item ts ≡ Some (i, us) → first_in (is_word comma) us ≡ None →
+      first_closing c us ≡ Some (tt, vs) → x ≡ Some ((found ++ i ∷ [], false), vs)
+  items_last i us vs e r k l =
+      turn ∙ (choice ∙ rw e (rw r (rw k (closing_choice c None (λ ws. Some ((found ++ i ∷ [], false), ws)) us ∙ rw l refl))))
+
+  pub items_more : (i : I) (us vs : List Word) → first_closing c ts ≡ None → item ts ≡ Some (i, us) → first_in (is_word comma) us ≡ Some (tt, vs) →
+      x ≡ items item c (n - (at + 1)) (found ++ i ∷ []) vs
+  items_more i us vs e r k = turn ∙ (choice ∙ rw e (rw r (rw k refl)))
 
 -- a turn of what begins with a word of its own
 module _ {B : Type 0} (start : Reader B) (inner : Reader Tree) {x : Read (List (B × Tree))} (n at : ℕ) (below : at < n) (found : List (B × Tree)) (ts : List Word)

@@ -1,5 +1,7 @@
 pub mod BoundView
+pub mod ClosingView
 pub mod Forms
+pub mod LineParts
 pub mod ListView
 pub mod Nests
 pub mod Reads

@@ -14,11 +14,12 @@ ghost use Rattle.expr_parser.specs.Nests.{Nests};
 ghost use Rattle.expr_parser.specs.Reads.{Reads, Within};
 
 use crate::clause::Clause;
+use crate::closing::Closing;
 use crate::counts::turns_for;
 use crate::grammar::{Grammar, Reading};
 use crate::listed::{dict, dict_of, list, list_of, tuple};
 use crate::lists::{Entry, Pairs, Parts};
-use crate::names::targets;
+use crate::name_lists::targets;
 use crate::part::Part;
 use crate::simple::paren;
 use std::alloc::{AllocError, Global};
@@ -84,7 +85,7 @@ impl<F: Fn(Global, Words, u32, Level) -> Result<Option<(Part, Words)>, AllocErro
     {
         let before = Parts::new(self.alloc).with(first)?;
         let Some(((parts, comma), rest)) = self.parts(
-            Fixed::RoundClose,
+            Closing::By(Fixed::RoundClose),
             turns_for(words),
             before,
             words,
@@ -124,7 +125,12 @@ impl<F: Fn(Global, Words, u32, Level) -> Result<Option<(Part, Words)>, AllocErro
         if let Some(rest) = after(Fixed::For, words) {
             return self.list_clause(first, rest);
         }
-        let Some(((parts, comma), rest)) = self.parts_on(Fixed::SquareClose, first, words)? else {
+        let Some(((parts, comma), rest)) = self.parts_on(
+            Closing::By(Fixed::SquareClose),
+            first,
+            words,
+        )?
+        else {
             return Ok(None);
         };
         Ok(Some((list(self.alloc, parts, comma)?, rest)))

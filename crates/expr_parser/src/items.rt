@@ -6,13 +6,14 @@ ghost use Rattle.syntax_reading.specs.Reading as reading;
 ghost use Rattle.syntax_reading.specs.Readers.{by};
 ghost use Rattle.syntax_reading.specs.Tables.{E1};
 ghost use Rattle.syntax_reading.specs.Words.{round_close, brace_close};
-ghost use Rattle.syntax_words.specs.FixedView.{view_fixed};
 ghost use Rattle.syntax_words.specs.WordView.{words_of};
+ghost use Rattle.expr_parser.specs.ClosingView.{view_closing};
 ghost use Rattle.expr_parser.specs.ListView.{trees, argument_of, seen_arguments, seen_pairs};
 ghost use Rattle.expr_parser.specs.Forms.{positional};
 ghost use Rattle.expr_parser.specs.Nests.{Nests};
 ghost use Rattle.expr_parser.specs.Reads.{Reads, Within};
 
+use crate::closing::{Closing, closed};
 use crate::counts::{is_some, turns_for};
 use crate::grammar::{Grammar, Reading};
 use crate::lists::{Arguments, Entry, Given, Pairs, Parts};
@@ -26,7 +27,7 @@ impl<F: Fn(Global, Words, u32, Level) -> Result<Option<(Part, Words)>, AllocErro
     #[tactic(auto, unfolding(crate::specs::Unfolded::items))]
     pub fn parts<'a>(
         &self,
-        close: Fixed,
+        close: Closing,
         turns: usize,
         before: Parts,
         words: Words<'a>,
@@ -34,13 +35,13 @@ impl<F: Fn(Global, Words, u32, Level) -> Result<Option<(Part, Words)>, AllocErro
         requires nests { Nests self.now.below (F.pre self.now.deeper) (F.post self.now.deeper) }
         requires shallow { before.depth ≤ self.now.below }
         ensures value { Reads (λ p. (trees p.0.items.items, p.1)) result
-            (items (reading.read self.now.below E1) (by (view_fixed close)) turns (trees before.items.items) (words_of words.entry)) }
+            (items (reading.read self.now.below E1) (view_closing close) turns (trees before.items.items) (words_of words.entry)) }
         ensures shallow { Within (λ p. p.0.depth) self.now.below result }
     {
         let mut found = before;
         let mut rest = words;
         for _turn in 0..turns {
-            if let Some(behind) = after(close, rest) {
+            if let Some(behind) = closed(close, rest) {
                 let comma = is_some(&found.items);
                 return Ok(Some(((found, comma), behind)));
             }
@@ -49,7 +50,7 @@ impl<F: Fn(Global, Words, u32, Level) -> Result<Option<(Part, Words)>, AllocErro
             };
             found = found.with(item)?;
             let Some(next) = after(Fixed::Comma, behind) else {
-                let Some(end) = after(close, behind) else {
+                let Some(end) = closed(close, behind) else {
                     return Ok(None);
                 };
                 return Ok(Some(((found, false), end)));
@@ -184,21 +185,21 @@ impl<F: Fn(Global, Words, u32, Level) -> Result<Option<(Part, Words)>, AllocErro
     /// Expressions behind a first one, and whether a comma stood behind the last one.
     pub fn parts_on<'a>(
         &self,
-        close: Fixed,
+        close: Closing,
         first: Part,
         words: Words<'a>,
     ) -> Reading<'a, (Parts, bool)>
         requires nests { Nests self.now.below (F.pre self.now.deeper) (F.post self.now.deeper) }
         requires shallow { first.depth ≤ self.now.below }
         ensures value { Reads (λ p. (trees p.0.items.items, p.1)) result
-            (items_on (reading.read self.now.below E1) (by (view_fixed close)) (view first.expr) (words_of words.entry)) }
+            (items_on (reading.read self.now.below E1) (view_closing close) (view first.expr) (words_of words.entry)) }
         ensures shallow { Within (λ p. p.0.depth) self.now.below result }
     {
         let found = Parts::new(self.alloc).with(first)?;
         if let Some(rest) = after(Fixed::Comma, words) {
             return self.parts(close, turns_for(words), found, rest);
         }
-        let Some(rest) = after(close, words) else {
+        let Some(rest) = closed(close, words) else {
             return Ok(None);
         };
         Ok(Some(((found, false), rest)))

@@ -30,6 +30,20 @@ pub fn tuple(alloc: Global, parts: Parts, comma: bool) -> Result<Part, AllocErro
     })
 }
 
+/// `ITEMS` without brackets.
+pub fn bare(alloc: Global, parts: Parts, comma: bool) -> Result<Part, AllocError>
+    requires { parts.depth + 1 < 2 ^ 32 }
+    ensures tree { IfOk result (λ p. view p.expr ≡ form.bare (trees_of (trees parts.items.items)) comma) }
+    ensures depth { IfOk result (λ p. p.depth ≡ parts.depth + 1) }
+{
+    let depth = parts.depth + 1;
+    let items = Row::of(parts.items);
+    Ok(Part {
+        expr: Boxed::new(alloc, Expr::Bare { items, comma })?,
+        depth,
+    })
+}
+
 /// `[ITEMS]`
 pub fn list(alloc: Global, parts: Parts, comma: bool) -> Result<Part, AllocError>
     requires { parts.depth + 1 < 2 ^ 32 }

@@ -18,7 +18,7 @@ use std::alloc::{AllocError, Global};
 use syntax_words::{Level, Words, words};
 
 /// The greatest depth of an expression.
-const DEPTH_LIMIT: u32 = 64;
+pub const DEPTH_LIMIT: u32 = 64;
 
 // The expression that all these tokens are.
 fn whole(alloc: Global, tokens: &Tokens) -> Result<Option<Part>, AllocError>

@@ -1,11 +1,10 @@
 use Rattle.std.proofs.Common.{◌≡◌, ◌+◌, ◌-◌, ◌≤◌, false, Some, None, sym, ap, ◌∙◌, arith}
 use Rattle.py_tree.specs.ExprView.{view}
 use Rattle.syntax_reading.specs.Items.{items}
-use Rattle.syntax_reading.specs.Readers.{by}
 use Rattle.syntax_reading.specs.Reading.{read}
 use Rattle.syntax_reading.specs.Tables.{E1}
-use Rattle.syntax_words.specs.FixedView.{view_fixed}
 use Rattle.syntax_words.specs.WordView.{words_of}
+use Rattle.expr_parser.specs.ClosingView.{view_closing}
 use Rattle.expr_parser.specs.ListView.{trees}
 use Rattle.expr_parser.proofs.Turns.{items_closed, items_none, items_bad, items_last, items_more, comma_is}
 use Rattle.expr_parser.proofs.grammar.Grammar.parts.Goals as goal
@@ -13,30 +12,30 @@ use Rattle.expr_parser.proofs.grammar.Grammar.parts.Goals as goal
 pub returns-in-Some-clause-value : goal.returns-in-Some-clause-value
 returns-in-Some-clause-value g c =
     let item = read c.args.self.now.below E1 in
-    let f = view_fixed c.args.close in
+    let close = view_closing c.args.close in
     let n = c.args.turns in
     let at = c.loop-turn._turn in
     let found = trees c.loop-turn.found.items.items in
     let ts = words_of c.loop-turn.rest in
     let us = words_of c.in-Some.behind in
-    items_closed item f n at c.loop-turn-test.true found ts c.loop-turn.invariant.value us (sym c.in-Some.ensures)
+    items_closed item close n at c.loop-turn-test.true found ts c.loop-turn.invariant.value us (sym c.in-Some.ensures)
     ∙ ap (λ k. Some ((found, k), us)) (comma_is view c.loop-turn.found.items.items c.is_some-comma.result c.is_some-comma.ensures)
 
 pub returns-in_default-2-clause-value : goal.returns-in_default-2-clause-value
 returns-in_default-2-clause-value g c =
     let item = read c.args.self.now.below E1 in
-    let f = view_fixed c.args.close in
+    let close = view_closing c.args.close in
     let n = c.args.turns in
     let at = c.loop-turn._turn in
     let found = trees c.loop-turn.found.items.items in
     let ts = words_of c.loop-turn.rest in
     let r : item ts ≡ None = rw c.in_default-2.is at c.in_ok-item.ensures.value in
-    items_none item f n at c.loop-turn-test.true found ts c.loop-turn.invariant.value (sym c.in_default.ensures) r
+    items_none item close n at c.loop-turn-test.true found ts c.loop-turn.invariant.value (sym c.in_default.ensures) r
 
-pub returns-in_default-after-2-clause-value : goal.returns-in_default-after-2-clause-value
-returns-in_default-after-2-clause-value g c =
+pub returns-in_default-closed-clause-value : goal.returns-in_default-closed-clause-value
+returns-in_default-closed-clause-value g c =
     let item = read c.args.self.now.below E1 in
-    let f = view_fixed c.args.close in
+    let close = view_closing c.args.close in
     let n = c.args.turns in
     let at = c.loop-turn._turn in
     let found = trees c.loop-turn.found.items.items in
@@ -44,12 +43,12 @@ returns-in_default-after-2-clause-value g c =
     let us = words_of c.in-Some-2.behind in
     let i = view c.in-Some-2.item.expr in
     let r : item ts ≡ Some (i, us) = rw c.in-Some-2.is at c.in_ok-item.ensures.value in
-    items_bad item f n at c.loop-turn-test.true found ts c.loop-turn.invariant.value i us (sym c.in_default.ensures) r (sym c.in_default-after.ensures) (sym c.in_default-after-2.ensures)
+    items_bad item close n at c.loop-turn-test.true found ts c.loop-turn.invariant.value i us (sym c.in_default.ensures) r (sym c.in_default-after.ensures) (sym c.in_default-closed.ensures)
 
 pub returns-in_default-after-clause-value : goal.returns-in_default-after-clause-value
 returns-in_default-after-clause-value g c =
     let item = read c.args.self.now.below E1 in
-    let f = view_fixed c.args.close in
+    let close = view_closing c.args.close in
     let n = c.args.turns in
     let at = c.loop-turn._turn in
     let found = trees c.loop-turn.found.items.items in
@@ -57,14 +56,14 @@ returns-in_default-after-clause-value g c =
     let us = words_of c.in-Some-2.behind in
     let i = view c.in-Some-2.item.expr in
     let r : item ts ≡ Some (i, us) = rw c.in-Some-2.is at c.in_ok-item.ensures.value in
-    let vs = words_of c.in-Some-after-2.end in
-    items_last item f n at c.loop-turn-test.true found ts c.loop-turn.invariant.value i us vs (sym c.in_default.ensures) r (sym c.in_default-after.ensures) (sym c.in-Some-after-2.ensures)
+    let vs = words_of c.in-Some-closed.end in
+    items_last item close n at c.loop-turn-test.true found ts c.loop-turn.invariant.value i us vs (sym c.in_default.ensures) r (sym c.in_default-after.ensures) (sym c.in-Some-closed.ensures)
     ∙ ap (λ xs. Some ((xs, false), vs)) (sym c.in_ok-found.ensures.items)
 
 pub loop-turn-preserved : goal.loop-turn-preserved
 loop-turn-preserved g c =
     let item = read c.args.self.now.below E1 in
-    let f = view_fixed c.args.close in
+    let close = view_closing c.args.close in
     let n = c.args.turns in
     let at = c.loop-turn._turn in
     let found = trees c.loop-turn.found.items.items in
@@ -75,7 +74,7 @@ loop-turn-preserved g c =
     let vs = words_of c.in-Some-after.next in
     let h : c.in-Some-2.item.depth ≤ c.args.self.now.below = rw c.in-Some-2.is at c.in_ok-item.ensures.shallow in
     record {
-      value = items_more item f n at c.loop-turn-test.true found ts c.loop-turn.invariant.value i us vs (sym c.in_default.ensures) r (sym c.in-Some-after.ensures)
-          ∙ ap (λ xs. items item (by f) (n - (at + 1)) xs vs) (sym c.in_ok-found.ensures.items);
+      value = items_more item close n at c.loop-turn-test.true found ts c.loop-turn.invariant.value i us vs (sym c.in_default.ensures) r (sym c.in-Some-after.ensures)
+          ∙ ap (λ xs. items item close (n - (at + 1)) xs vs) (sym c.in_ok-found.ensures.items);
       shallow = omega (arith, c.in_ok-found.ensures.depth, c.loop-turn.invariant.shallow, h);
     }

@@ -4,7 +4,7 @@ use Rattle.syntax_reading.specs.Parts.{first_name}
 use Rattle.syntax_reading.specs.Readers.{by}
 use Rattle.syntax_words.specs.FixedView.{view_fixed}
 use Rattle.syntax_words.specs.WordView.{words_of}
-use Rattle.expr_parser.proofs.names.names.Given as goal
+use Rattle.expr_parser.proofs.name_lists.names.Given as goal
 
 abbrev pub invariant-loop-turn : goal.invariant-loop-turn
 invariant-loop-turn l =

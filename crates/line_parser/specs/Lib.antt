@@ -1,0 +1,4 @@
+pub mod PieceView
+pub mod LineGroups
+pub mod LineView
+pub mod Unfolded
