@@ -91,5 +91,5 @@ pub fn arguments<'a>(alloc: Global, words: Words<'a>) -> Reading<'a, (Vec<Argume
     if !arguments.named_last() {
         return Ok(None);
     }
-    Ok(Some(((arguments.items, comma), rest)))
+    Ok(Some(((arguments.into_items(), comma), rest)))
 }

@@ -1,6 +1,6 @@
 // What is listed in an expression, with the depth of the deepest, 0 where there is nothing.
 ghost use Rattle.std.specs.Prelude.{◌≡◌, ◌∷◌, ◌++◌, [], max, IfOk};
-ghost use Rattle.py_tree.specs.ExprView.{view, view_comparison};
+ghost use Rattle.py_tree.specs.ExprView.{view, view_arguments, view_comparison};
 ghost use Rattle.py_tree.specs.Expressions.{trees_of};
 ghost use Rattle.syntax_form.specs.Depth.{list_depth, argument_depth, pair_depth, link_depth};
 ghost use Rattle.syntax_reading.specs.Parts.{named_last, arguments_of, pairs_of, links_of};
@@ -93,6 +93,14 @@ impl Arguments {
 }
 
 impl Arguments {
+    /// The arguments alone.
+    #[tactic(auto, using(crate::proofs::Views::arguments_seen))]
+    pub fn into_items(self) -> Vec<Argument>
+        ensures { view_arguments result.items ≡ arguments_of (seen_arguments self.items.items) }
+    {
+        self.items
+    }
+
     /// Whether those with names stand behind the others.
     pub fn named_last(&self) -> bool
         ensures { result ≡ named_last (seen_arguments self.now.items.items) }
