@@ -7,7 +7,9 @@ mod Ends
 mod Faulty
 mod Found
 mod Fronts
+mod Fuel
 mod LogicalLaws
 mod Read
+mod StmtLaws
 mod Turns
 mod WorkedRows

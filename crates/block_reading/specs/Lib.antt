@@ -1,4 +1,5 @@
 pub mod BlockReading
 pub mod LogicalReading
+pub mod StmtReading
 pub mod Worked
 pub mod WorkedBlocks
