@@ -23,7 +23,7 @@ use syntax_words::{Fixed, Level, Words, after};
 /// The greatest depth of a part of an expression.
 const PART_LIMIT: u32 = DEPTH_LIMIT - 1;
 
-/// An expression of at most 64 levels, and the words behind it.
+/// An expression, at most 64 deep, and the words behind it.
 pub fn expression<'a>(alloc: Global, words: Words<'a>) -> Reading<'a, Boxed<Expr>>
     ensures { Reads view result (part.expression (words_of words.entry)) }
 {
@@ -33,7 +33,7 @@ pub fn expression<'a>(alloc: Global, words: Words<'a>) -> Reading<'a, Boxed<Expr
     Ok(Some((part.expr, rest)))
 }
 
-/// An expression or a tuple without brackets up to what closes it, of at most 64 levels.
+/// An expression or a tuple without brackets, at most 64 deep, up to what closes it.
 #[tactic(auto, unfolding(crate::specs::Unfolded::closed_values))]
 pub fn values<'a>(alloc: Global, close: Closing, words: Words<'a>) -> Reading<'a, Boxed<Expr>>
     ensures { Reads view result (closed_values part_limit (view_closing close) (words_of words.entry)) }

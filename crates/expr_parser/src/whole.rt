@@ -34,7 +34,8 @@ fn whole(alloc: Global, tokens: &Tokens) -> Result<Option<Part>, AllocError>
     Ok(alone(part, rest))
 }
 
-/// The expression of at most 64 levels that all these tokens are, and None where they are none (Python language reference, section 6).
+/// The expression, at most 64 deep, that all these tokens are; and None where they are none, of tokens that are spelled as tokens (Python
+/// language reference, section 6).
 pub fn expr(alloc: Global, tokens: &Tokens) -> Result<Option<Boxed<Expr>>, AllocError>
     ensures found { AreTokens (map view_token (token_list tokens.now))
         → IfOk result (λ o. IfSome o (λ e. IsExpression depth_limit (map view_token (token_list tokens.now)) (view e))) }

@@ -53,7 +53,7 @@ fn whole(alloc: Global, tokens: &Tokens) -> Found
 }
 
 /// The line that all these tokens are, where they spell lines of two forms that of the later one, and None where they spell none (Python language
-/// reference, sections 7 and 8). Its expressions have at most 64 levels.
+/// reference, sections 7 and 8). Its expressions are at most 64 deep.
 pub fn line(alloc: Global, tokens: &Tokens) -> Result<Option<Boxed<Line>>, AllocError>
     ensures found { AreTokens (map view_token (token_list tokens.now))
         → IfOk result (λ o. IfSome o (λ l. IsLine (map view_token (token_list tokens.now)) (view_head l))) }

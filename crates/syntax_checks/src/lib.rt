@@ -1,5 +1,7 @@
-//! The tests of the reading and printing of expressions that are proved functions: that they answer where there is memory, which no contract says.
+//! The tests of readers and printers of code that are proved functions: that they answer where there is memory, which no contract says.
 #![tactic(auto)]
 
+#[cfg(test)]
+mod code_lines;
 #[cfg(test)]
 mod expressions;

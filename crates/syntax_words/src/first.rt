@@ -6,15 +6,13 @@ ghost use Rattle.syntax_reading.specs.Readers.{first_in, is_word};
 ghost use Rattle.syntax_reading.specs.Tables as table;
 ghost use Rattle.syntax_words.specs.Beginnings.{first_none};
 ghost use Rattle.syntax_words.specs.FixedView.{view_fixed};
-ghost use Rattle.syntax_words.specs.TableView.{view_level, view_operator, view_prefix, view_tail, view_bracket};
+ghost use Rattle.syntax_words.specs.TableView.{view_level, view_operator, view_prefix, view_tail};
 ghost use Rattle.syntax_words.specs.WordView.{words_of, found, behind};
 
 use crate::fixed::Fixed;
 use crate::level::Level;
 use crate::sense::Sense;
-use crate::tables::{
-    Bracket, Operator, Prefix, Tail, bracket_of, comparison_of, operator_at, prefix_at, tail_of,
-};
+use crate::tables::{Operator, Prefix, Tail, comparison_of, operator_at, prefix_at, tail_of};
 use crate::word::Words;
 use py_tree::{Comparison, Spelling, TokenKind};
 
@@ -64,15 +62,6 @@ pub fn first_tail<'a>(words: Words<'a>) -> Option<(Tail, Words<'a>)>
     let (fixed, rest) = first_fixed(words)?;
     let tail = tail_of(fixed)?;
     Some((tail, rest))
-}
-
-/// An opening bracket.
-pub fn first_bracket<'a>(words: Words<'a>) -> Option<(Bracket, Words<'a>)>
-    ensures { found view_bracket result ≡ first_in table.bracket_of (words_of words.entry) }
-{
-    let (fixed, rest) = first_fixed(words)?;
-    let bracket = bracket_of(fixed)?;
-    Some((bracket, rest))
 }
 
 /// A comparison, of one word or of two (`not in`).

@@ -1,6 +1,7 @@
 //! The words of the grammar that tokens are, what single words say, and what begins a list of words.
 //!
-//! A reader of expressions and lines stands on it: each token is looked at once, and every later test compares small enums.
+//! The readers of expressions and of lines stand on it: each token is looked at once, and later tests compare small enums, but for `None` and for
+//! the names that some lines tell.
 #![tactic(auto)]
 
 mod atom;
@@ -15,8 +16,8 @@ mod word_list;
 
 pub use atom::{Atom, first_atom};
 pub use first::{
-    after, after_none, first_bracket, first_comparison, first_fixed, first_if, first_keyword,
-    first_name, first_operator, first_prefix, first_tail,
+    after, after_none, first_comparison, first_fixed, first_if, first_keyword, first_name,
+    first_operator, first_prefix, first_tail,
 };
 pub use fixed::Fixed;
 pub use level::Level;

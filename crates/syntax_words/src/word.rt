@@ -4,7 +4,7 @@ ghost use Rattle.syntax_words.specs.SenseView.{view_sense, is_sound};
 
 use crate::sense::Sense;
 
-/// A token as the grammar sees it: what it is stands beside it, so that no spelling is compared twice.
+/// A token as the grammar sees it: what it is stands beside it, so that no spelling is looked up twice.
 #[derive(Clone, Copy, Debug)]
 pub struct Word<'a> {
     pub sense: Sense<'a>,
