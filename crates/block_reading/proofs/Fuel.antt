@@ -1,5 +1,5 @@
 -- A reader with turns enough reads the same whatever their number.
-use Rattle.std.proofs.Common.{◌≡◌, ℕ, ◌+◌, ◌<◌, List, [], ◌∷◌, ◌++◌, length, Option, Some, None, refl, sym, ap, ◌∙◌, subst, length-append, arith}
+use Rattle.std.proofs.Common.{◌≡◌, ℕ, ◌<◌, List, [], ◌∷◌, length, Option, refl, sym, ap, ◌∙◌, arith}
 use Rattle.py_tree.specs.Trees.{Head}
 use Rattle.block_form.specs.Laid.{Placed, Laid}
 use Rattle.block_form.specs.CellDepth.{Room}
