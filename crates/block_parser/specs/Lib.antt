@@ -1,0 +1,3 @@
+pub mod BlockView
+pub mod Heads
+pub mod Steps
