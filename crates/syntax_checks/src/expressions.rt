@@ -35,10 +35,11 @@ fn depth_of(rt: &impl Abort, alloc: Global, text: &str) -> Result<Option<u32>, F
     Ok(Some(depth(found.get())))
 }
 
-// The depths were computed from the trees that `ast` of Python 3.11 has for the same texts: 1 for a tree without parts, otherwise one more than
-// the deepest part. A chain of comparisons is one tree, an operator between three operands two. Of an f-text the parts are the expressions of its
-// fields. Round brackets around one expression, which those trees don't keep, were counted by hand. Python has an expression also for each text
-// that is none here, but for those that it refuses: `a if b`, `f(b=1, a)`, `a +`.
+// Texts with the depths of the expressions that they are. The depths were computed from the trees that `ast` of Python 3.11 has for the same texts:
+// 1 for a tree without parts, else one more than the deepest part. A chain of comparisons is one tree, and `a + b + c` is one in another; the
+// parts of an f-text are the expressions of its fields; targets of a comprehension, names of arguments and the `None` behind `is` are no parts.
+// Round brackets around one expression, which `ast` doesn't keep, were counted by hand. Of the texts that are none here, Python refuses
+// `a if b`, `f(b=1, a)` and `a + ` too.
 const CASES: [(&str, Option<u32>); 40] = [
     ("-2 ** 2", Some(3)),
     ("2 ** -1", Some(3)),
@@ -90,6 +91,7 @@ fn reads_and_prints(rt: HostRuntime) -> Result<(), Fail> {
     Ok(())
 }
 
+// 1 in so many round brackets.
 fn bracketed(alloc: Global, brackets: usize) -> Result<String, AllocError> {
     let opening = "(".repeat(alloc, brackets)?;
     let closing = ")".repeat(alloc, brackets)?;
