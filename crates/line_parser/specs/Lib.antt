@@ -2,3 +2,4 @@ pub mod PieceView
 pub mod LineGroups
 pub mod LineView
 pub mod Unfolded
+pub mod Shapes

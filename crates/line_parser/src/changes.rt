@@ -1,15 +1,20 @@
 // Values, assignments and changes of lists (Python language reference, sections 7.1 and 7.2).
-ghost use Rattle.std.specs.Prelude.{◌≡◌};
+ghost use Rattle.std.specs.Prelude.{◌≡◌, [], ◌∷◌, option_map, IfOk};
+ghost use Rattle.py_tree.specs.ExprView.{view};
 ghost use Rattle.syntax_reading.specs.LineForms as form;
+ghost use Rattle.syntax_reading.specs.LinePieces.{nothing, a_name, a_tree, pieces};
+ghost use Rattle.syntax_reading.specs.LineReading.{part_limit};
 ghost use Rattle.syntax_words.specs.WordView.{words_of};
 ghost use Rattle.line_parser.specs.LineView.{IsForm, IsFirst};
 ghost use Rattle.line_parser.specs.LineGroups as group;
+ghost use Rattle.line_parser.specs.Shapes as shape;
 
 use crate::line_words::{exact, first_augment};
 use crate::whole::Found;
 use expr_parser::{Closing, copy, expression, targets, values};
-use py_tree::{Line, Spellings};
-use std::alloc::Global;
+use py_tree::{Expr, Line, Spelling, Spellings};
+use sqlite_items::Boxed;
+use std::alloc::{AllocError, Global};
 use syntax_words::{Fixed, Words, after, first_name};
 
 /// An expression, or a tuple without brackets.
@@ -130,10 +135,15 @@ fn augment_item(alloc: Global, words: Words) -> Found
     }
 }
 
-/// `NAME.append(VALUE)`
+// The name and the value of `NAME.METHOD(VALUE)`.
 #[tactic(auto, unfolding(crate::specs::Unfolded::piece, crate::specs::Unfolded::pieces))]
-fn append(alloc: Global, words: Words) -> Found
-    ensures { IsForm form.Append (words_of words.entry) result }
+fn method_call<'a>(
+    alloc: Global,
+    method: &str,
+    words: Words<'a>,
+) -> Result<Option<(&'a Spelling, Boxed<Expr>)>, AllocError>
+    ensures { IfOk result (λ o. option_map (λ p. a_name p.0.now ∷ nothing ∷ nothing ∷ nothing ∷ a_tree (view p.1) ∷ nothing ∷ []) o ≡
+        pieces part_limit (shape.method_call method.now) (words_of words.entry)) }
 {
     let Some((name, rest)) = first_name(words) else {
         return Ok(None);
@@ -141,7 +151,7 @@ fn append(alloc: Global, words: Words) -> Found
     let Some(rest) = after(Fixed::Dot, rest) else {
         return Ok(None);
     };
-    let Some(rest) = exact("append", rest) else {
+    let Some(rest) = exact(method, rest) else {
         return Ok(None);
     };
     let Some(rest) = after(Fixed::RoundOpen, rest) else {
@@ -154,38 +164,29 @@ fn append(alloc: Global, words: Words) -> Found
         return Ok(None);
     };
     match rest.words {
-        [] => Ok(Some(Line::Append(copy(alloc, name)?, value))),
+        [] => Ok(Some((name, value))),
         _ => Ok(None),
     }
 }
 
+/// `NAME.append(VALUE)`
+fn append(alloc: Global, words: Words) -> Found
+    ensures { IsForm form.Append (words_of words.entry) result }
+{
+    let Some((name, value)) = method_call(alloc, "append", words)? else {
+        return Ok(None);
+    };
+    Ok(Some(Line::Append(copy(alloc, name)?, value)))
+}
+
 /// `NAME.extend(VALUE)`
-#[tactic(auto, unfolding(crate::specs::Unfolded::piece, crate::specs::Unfolded::pieces))]
 fn extend(alloc: Global, words: Words) -> Found
     ensures { IsForm form.Extend (words_of words.entry) result }
 {
-    let Some((name, rest)) = first_name(words) else {
+    let Some((name, value)) = method_call(alloc, "extend", words)? else {
         return Ok(None);
     };
-    let Some(rest) = after(Fixed::Dot, rest) else {
-        return Ok(None);
-    };
-    let Some(rest) = exact("extend", rest) else {
-        return Ok(None);
-    };
-    let Some(rest) = after(Fixed::RoundOpen, rest) else {
-        return Ok(None);
-    };
-    let Some((value, rest)) = expression(alloc, rest)? else {
-        return Ok(None);
-    };
-    let Some(rest) = after(Fixed::RoundClose, rest) else {
-        return Ok(None);
-    };
-    match rest.words {
-        [] => Ok(Some(Line::Extend(copy(alloc, name)?, value))),
-        _ => Ok(None),
-    }
+    Ok(Some(Line::Extend(copy(alloc, name)?, value)))
 }
 
 /// A value, an assignment or a change of a list.

@@ -1,6 +1,8 @@
 // Lines of one keyword (Python language reference, sections 7.4, 7.6, 7.9 and 7.10).
-ghost use Rattle.std.specs.Prelude.{◌≡◌};
+ghost use Rattle.std.specs.Prelude.{◌≡◌, option_map};
+ghost use Rattle.py_tree.specs.View.{view_head};
 ghost use Rattle.syntax_reading.specs.LineForms as form;
+ghost use Rattle.syntax_reading.specs.LineReading.{part_limit, one_form};
 ghost use Rattle.syntax_words.specs.WordView.{words_of};
 ghost use Rattle.line_parser.specs.LineView.{IsForm, IsFirst};
 ghost use Rattle.line_parser.specs.LineGroups as group;
@@ -13,15 +15,13 @@ use syntax_words::{Fixed, Words, after};
 
 /// `return`
 #[tactic(auto, unfolding(crate::specs::Unfolded::piece, crate::specs::Unfolded::pieces))]
-fn return_line(alloc: Global, words: Words) -> Found
-    ensures { IsForm form.Return (words_of words.entry) result }
+fn return_line(words: Words) -> Option<Line>
+    ensures { option_map view_head result ≡ one_form part_limit form.Return (words_of words.entry) }
 {
-    let Some(rest) = after(Fixed::Return, words) else {
-        return Ok(None);
-    };
+    let rest = after(Fixed::Return, words)?;
     match rest.words {
-        [] => Ok(Some(Line::Return)),
-        _ => Ok(None),
+        [] => Some(Line::Return),
+        _ => None,
     }
 }
 
@@ -44,43 +44,37 @@ fn return_value(alloc: Global, words: Words) -> Found
 
 /// `pass`
 #[tactic(auto, unfolding(crate::specs::Unfolded::piece, crate::specs::Unfolded::pieces))]
-fn pass_line(alloc: Global, words: Words) -> Found
-    ensures { IsForm form.Pass (words_of words.entry) result }
+fn pass_line(words: Words) -> Option<Line>
+    ensures { option_map view_head result ≡ one_form part_limit form.Pass (words_of words.entry) }
 {
-    let Some(rest) = after(Fixed::Pass, words) else {
-        return Ok(None);
-    };
+    let rest = after(Fixed::Pass, words)?;
     match rest.words {
-        [] => Ok(Some(Line::Pass)),
-        _ => Ok(None),
+        [] => Some(Line::Pass),
+        _ => None,
     }
 }
 
 /// `break`
 #[tactic(auto, unfolding(crate::specs::Unfolded::piece, crate::specs::Unfolded::pieces))]
-fn break_line(alloc: Global, words: Words) -> Found
-    ensures { IsForm form.Break (words_of words.entry) result }
+fn break_line(words: Words) -> Option<Line>
+    ensures { option_map view_head result ≡ one_form part_limit form.Break (words_of words.entry) }
 {
-    let Some(rest) = after(Fixed::Break, words) else {
-        return Ok(None);
-    };
+    let rest = after(Fixed::Break, words)?;
     match rest.words {
-        [] => Ok(Some(Line::Break)),
-        _ => Ok(None),
+        [] => Some(Line::Break),
+        _ => None,
     }
 }
 
 /// `continue`
 #[tactic(auto, unfolding(crate::specs::Unfolded::piece, crate::specs::Unfolded::pieces))]
-fn continue_line(alloc: Global, words: Words) -> Found
-    ensures { IsForm form.Continue (words_of words.entry) result }
+fn continue_line(words: Words) -> Option<Line>
+    ensures { option_map view_head result ≡ one_form part_limit form.Continue (words_of words.entry) }
 {
-    let Some(rest) = after(Fixed::Continue, words) else {
-        return Ok(None);
-    };
+    let rest = after(Fixed::Continue, words)?;
     match rest.words {
-        [] => Ok(Some(Line::Continue)),
-        _ => Ok(None),
+        [] => Some(Line::Continue),
+        _ => None,
     }
 }
 
@@ -89,17 +83,17 @@ fn continue_line(alloc: Global, words: Words) -> Found
 pub fn ending(alloc: Global, words: Words) -> Found
     ensures { IsFirst group.ending_forms (words_of words.entry) result }
 {
-    if let Some(line) = continue_line(alloc, words)? {
+    if let Some(line) = continue_line(words) {
         return Ok(Some(line));
     }
-    if let Some(line) = break_line(alloc, words)? {
+    if let Some(line) = break_line(words) {
         return Ok(Some(line));
     }
-    if let Some(line) = pass_line(alloc, words)? {
+    if let Some(line) = pass_line(words) {
         return Ok(Some(line));
     }
     if let Some(line) = return_value(alloc, words)? {
         return Ok(Some(line));
     }
-    return_line(alloc, words)
+    Ok(return_line(words))
 }

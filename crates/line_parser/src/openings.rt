@@ -1,22 +1,34 @@
 // Lines that a block follows (Python language reference, sections 8.1 to 8.3 and 8.7).
-ghost use Rattle.std.specs.Prelude.{◌≡◌};
+ghost use Rattle.std.specs.Prelude.{◌≡◌, [], ◌∷◌, option_map, IfOk};
+ghost use Rattle.py_tree.specs.ExprView.{view};
+ghost use Rattle.py_tree.specs.View.{view_head};
 ghost use Rattle.syntax_reading.specs.LineForms as form;
+ghost use Rattle.syntax_reading.specs.LinePieces.{nothing, a_tree, pieces};
+ghost use Rattle.syntax_reading.specs.LineReading.{part_limit, one_form};
+ghost use Rattle.syntax_words.specs.FixedView.{view_fixed};
 ghost use Rattle.syntax_words.specs.WordView.{words_of};
 ghost use Rattle.line_parser.specs.LineView.{IsForm, IsFirst};
 ghost use Rattle.line_parser.specs.LineGroups as group;
+ghost use Rattle.line_parser.specs.Shapes as shape;
 
 use crate::whole::Found;
 use expr_parser::{Closing, copy, expression, names, targets, turns_for, values};
-use py_tree::{Line, Spellings};
-use std::alloc::Global;
+use py_tree::{Expr, Line, Spellings};
+use sqlite_items::Boxed;
+use std::alloc::{AllocError, Global};
 use syntax_words::{Fixed, Words, after, first_name};
 
-/// `if TEST:`
+// The test of `KEYWORD TEST:`.
 #[tactic(auto, unfolding(crate::specs::Unfolded::piece, crate::specs::Unfolded::pieces))]
-fn if_line(alloc: Global, words: Words) -> Found
-    ensures { IsForm form.IfLine (words_of words.entry) result }
+fn test_behind(
+    alloc: Global,
+    keyword: Fixed,
+    words: Words,
+) -> Result<Option<Boxed<Expr>>, AllocError>
+    ensures { IfOk result (λ o. option_map (λ e. nothing ∷ a_tree (view e) ∷ nothing ∷ []) o ≡
+        pieces part_limit (shape.tested (view_fixed keyword)) (words_of words.entry)) }
 {
-    let Some(rest) = after(Fixed::If, words) else {
+    let Some(rest) = after(keyword, words) else {
         return Ok(None);
     };
     let Some((test, rest)) = expression(alloc, rest)? else {
@@ -26,66 +38,52 @@ fn if_line(alloc: Global, words: Words) -> Found
         return Ok(None);
     };
     match rest.words {
-        [] => Ok(Some(Line::If(test))),
+        [] => Ok(Some(test)),
         _ => Ok(None),
     }
 }
 
+/// `if TEST:`
+fn if_line(alloc: Global, words: Words) -> Found
+    ensures { IsForm form.IfLine (words_of words.entry) result }
+{
+    let Some(test) = test_behind(alloc, Fixed::If, words)? else {
+        return Ok(None);
+    };
+    Ok(Some(Line::If(test)))
+}
+
 /// `elif TEST:`
-#[tactic(auto, unfolding(crate::specs::Unfolded::piece, crate::specs::Unfolded::pieces))]
 fn elif_line(alloc: Global, words: Words) -> Found
     ensures { IsForm form.ElifLine (words_of words.entry) result }
 {
-    let Some(rest) = after(Fixed::Elif, words) else {
+    let Some(test) = test_behind(alloc, Fixed::Elif, words)? else {
         return Ok(None);
     };
-    let Some((test, rest)) = expression(alloc, rest)? else {
-        return Ok(None);
-    };
-    let Some(rest) = after(Fixed::Colon, rest) else {
-        return Ok(None);
-    };
-    match rest.words {
-        [] => Ok(Some(Line::Elif(test))),
-        _ => Ok(None),
-    }
+    Ok(Some(Line::Elif(test)))
 }
 
 /// `else:`
 #[tactic(auto, unfolding(crate::specs::Unfolded::piece, crate::specs::Unfolded::pieces))]
-fn else_line(alloc: Global, words: Words) -> Found
-    ensures { IsForm form.ElseLine (words_of words.entry) result }
+fn else_line(words: Words) -> Option<Line>
+    ensures { option_map view_head result ≡ one_form part_limit form.ElseLine (words_of words.entry) }
 {
-    let Some(rest) = after(Fixed::Else, words) else {
-        return Ok(None);
-    };
-    let Some(rest) = after(Fixed::Colon, rest) else {
-        return Ok(None);
-    };
+    let rest = after(Fixed::Else, words)?;
+    let rest = after(Fixed::Colon, rest)?;
     match rest.words {
-        [] => Ok(Some(Line::Else)),
-        _ => Ok(None),
+        [] => Some(Line::Else),
+        _ => None,
     }
 }
 
 /// `while TEST:`
-#[tactic(auto, unfolding(crate::specs::Unfolded::piece, crate::specs::Unfolded::pieces))]
 fn while_line(alloc: Global, words: Words) -> Found
     ensures { IsForm form.WhileLine (words_of words.entry) result }
 {
-    let Some(rest) = after(Fixed::While, words) else {
+    let Some(test) = test_behind(alloc, Fixed::While, words)? else {
         return Ok(None);
     };
-    let Some((test, rest)) = expression(alloc, rest)? else {
-        return Ok(None);
-    };
-    let Some(rest) = after(Fixed::Colon, rest) else {
-        return Ok(None);
-    };
-    match rest.words {
-        [] => Ok(Some(Line::While(test))),
-        _ => Ok(None),
-    }
+    Ok(Some(Line::While(test)))
 }
 
 /// `for TARGETS in VALUE:`
@@ -153,7 +151,7 @@ pub fn opening(alloc: Global, words: Words) -> Found
     if let Some(line) = while_line(alloc, words)? {
         return Ok(Some(line));
     }
-    if let Some(line) = else_line(alloc, words)? {
+    if let Some(line) = else_line(words) {
         return Ok(Some(line));
     }
     if let Some(line) = elif_line(alloc, words)? {
